@@ -1,0 +1,9 @@
+pub mod Limits
+pub mod Lists
+pub mod Values
+pub mod Faults
+pub mod Rows
+pub mod Domains
+pub mod DomainValues
+pub mod Meaning
+pub mod Automaton

@@ -1,0 +1,47 @@
+//! The vocabulary of quantified event automata.
+
+mod automaton;
+mod configuration;
+mod describe;
+mod domain;
+mod domain_calls;
+mod fault;
+mod limits;
+mod rows;
+mod term;
+mod value;
+
+pub use automaton::Kind;
+pub use automaton::Mode;
+pub use automaton::Quantifier;
+pub use automaton::State;
+pub use automaton::Transition;
+pub use configuration::Binding;
+pub use configuration::Configuration;
+pub use configuration::ConfigurationList;
+pub use domain::Domain;
+pub use fault::Description;
+pub use fault::Layer;
+pub use fault::Place;
+pub use fault::ReadingFault;
+pub use fault::RowKind;
+pub use fault::RunFault;
+pub use fault::RunFaultFromTable;
+pub use fault::TableFault;
+pub use fault::TableFaultFromReading;
+pub use limits::MAX_ACTIONS;
+pub use limits::MAX_CONFIGURATIONS;
+pub use limits::MAX_DOMAIN;
+pub use limits::MAX_GUARDS;
+pub use limits::MAX_PATTERNS;
+pub use limits::MAX_QUANTIFIERS;
+pub use limits::MAX_STATES;
+pub use limits::MAX_TERMS;
+pub use limits::MAX_TRANSITIONS;
+pub use limits::MAX_VALUE;
+pub use limits::PLACES;
+pub use limits::REGISTERS;
+pub use rows::add_row;
+pub use term::Pattern;
+pub use term::Term;
+pub use value::is_value;
