@@ -1,0 +1,4 @@
+//! Linear theories.
+
+mod form;
+pub mod rows;

@@ -1,0 +1,32 @@
+//! The rows of a linear theory.
+
+#[derive(Clone, Copy)]
+pub enum Relation {
+    Less,
+    Equal,
+    Greater,
+}
+
+// The sum m × A + n × B + c, where A and B are what stands at the places `a` and `b`.
+#[derive(Clone, Copy)]
+pub struct LinearForm {
+    pub m: i64,
+    pub a: u8,
+    pub n: i64,
+    pub b: u8,
+    pub c: i64,
+}
+
+// Holds if the form stands in this relation to 0.
+#[derive(Clone, Copy)]
+pub struct LinearGuard {
+    pub form: LinearForm,
+    pub relation: Relation,
+}
+
+// Writes the form's sum to a register.
+#[derive(Clone, Copy)]
+pub struct LinearAction {
+    pub register: u8,
+    pub form: LinearForm,
+}
