@@ -1,1 +1,4 @@
+pub mod Numbered
 pub mod Linear
+pub mod LinearLaws
+pub mod LinearMeaning

@@ -47,6 +47,9 @@ stands Greater z = ltZ (pos 0) z
 abbrev pub guard-holds : LinearGuard → List ℤ → Bool
 guard-holds g row = stands (g .relation) (sum (g .form) row)
 
--- the sum, or 'out of range' if it is no value
+-- the number if it is a value, else 'out of range'
+abbrev pub value-of : ℤ → Option ℤ
+value-of z = cond (is-value z) (Some z) None
+
 abbrev pub action-result : LinearAction → List ℤ → Option ℤ
-action-result x row = cond (is-value (sum (x .form) row)) (Some (sum (x .form) row)) None
+action-result x row = value-of (sum (x .form) row)

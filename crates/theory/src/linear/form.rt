@@ -3,10 +3,14 @@
 ghost use mathlib.Core.Bool.{true};
 ghost use mathlib.Core.Path.{_≡_};
 ghost use lib.IntN.{_*ℤ_};
-ghost use Rattle.theory.specs.Linear.{is-factor, form-in-range, sum, form-reads, stands};
+ghost use Rattle.theory.specs.Linear.{is-factor, form-in-range, guard-in-range, action-in-range, sum, form-reads, stands, guard-holds, value-of, action-result};
+use crate::linear::rows::LinearAction;
 use crate::linear::rows::LinearForm;
+use crate::linear::rows::LinearGuard;
 use crate::linear::rows::Relation;
+use qea::MAX_VALUE;
 use qea::PLACES;
+use qea::REGISTERS;
 use qea::is_value;
 
 // The factors m and n of a form lie from -MAX_FACTOR to MAX_FACTOR.
@@ -61,4 +65,44 @@ impl Relation {
             Relation::Greater => z > 0,
         }
     }
+}
+
+impl LinearGuard {
+    pub(crate) fn is_in_range(&self) -> bool
+        ensures { λ r. ⌜ r ≡ guard-in-range (now (self .entry)) ⌝ }
+    {
+        self.form.is_in_range()
+    }
+
+    pub(crate) fn holds(&self, row: &[i64; PLACES]) -> bool
+        requires { ⌜ guard-in-range (now self) ≡ true ⌝ }
+        ensures { λ r. ⌜ r ≡ guard-holds (now (self .entry)) (now (row .entry)) ⌝ }
+    {
+        self.relation.holds(self.form.sum(row))
+    }
+}
+
+impl LinearAction {
+    pub(crate) fn is_in_range(&self) -> bool
+        ensures { λ r. ⌜ r ≡ action-in-range (now (self .entry)) ⌝ }
+    {
+        (self.register as usize) < REGISTERS && self.form.is_in_range()
+    }
+
+    pub(crate) fn result(&self, row: &[i64; PLACES]) -> Option<i64>
+        requires { ⌜ action-in-range (now self) ≡ true ⌝ }
+        ensures { λ r. ⌜ r ≡ action-result (now (self .entry)) (now (row .entry)) ⌝ }
+    {
+        value_of(self.form.sum(row))
+    }
+}
+
+// The number if it is a value.
+fn value_of(z: i128) -> Option<i64>
+    ensures { λ r. ⌜ r ≡ value-of z ⌝ }
+{
+    if -(MAX_VALUE as i128) <= z && z <= MAX_VALUE as i128 {
+        return Some(z as i64);
+    }
+    None
 }

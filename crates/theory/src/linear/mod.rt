@@ -1,4 +1,8 @@
 //! Linear theories.
 
+mod calls;
 mod form;
 pub mod rows;
+pub mod theory;
+
+pub use calls::LinearTheoryTheory;

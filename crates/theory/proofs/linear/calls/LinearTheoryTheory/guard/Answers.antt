@@ -1,0 +1,22 @@
+use mathlib.Core.Path.{refl}
+use Rattle.bounded.specs.Items.{items}
+use Rattle.qea.specs.Meaning.{guard-says}
+use Rattle.theory.specs.Linear.{guard-in-range}
+use Rattle.theory.specs.LinearMeaning.{linear-guard}
+use Rattle.theory.proofs.Lookups.{row-passes, said-of-row, said-of-none}
+use Rattle.theory.proofs.linear.calls.LinearTheoryTheory.guard.Needs as need
+
+pub holds-requires : need.holds-requires
+holds-requires c κs =
+    let t = c .args .self .now in
+    row-passes guard-in-range linear-guard (items (t .guards)) (t .«guards_in_range») (c .args .n) (c .in-Some .guard) (c .in-Some .ensures tt)
+
+pub returns-in-Some : need.returns-in-Some
+returns-in-Some c =
+    let t = c .args .self .now in
+    said-of-row guard-in-range linear-guard (λ o. guard-says o (c .args .row .now)) (items (t .guards)) (t .«guards_in_range») (c .args .n) (c .in-Some .guard) (c .holds .result) (c .in-Some .ensures tt) (λ ok. c .holds .ensures)
+
+pub returns-in-None : need.returns-in-None
+returns-in-None c =
+    let t = c .args .self .now in
+    said-of-none guard-in-range linear-guard (λ o. guard-says o (c .args .row .now)) (items (t .guards)) (t .«guards_in_range») (c .args .n) _ (c .in-None .ensures tt) refl

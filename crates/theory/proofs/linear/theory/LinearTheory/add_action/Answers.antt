@@ -1,0 +1,18 @@
+use mathlib.Core.Path.{_≡_, ap, _∙_}
+use mathlib.Core.Bool.{Bool}
+use Prim.Native.Nat.{_+_}
+use lib.Dec.{ltb}
+use lib.ListN.{length}
+use Rattle.bounded.specs.Items.{items}
+use Rattle.qea.specs.declared.fault.RowKind.the-variants.{Action}
+use Rattle.qea.specs.Faults.{table-fault, told}
+use Rattle.qea.specs.Rows.{row-answer}
+use Rattle.theory.specs.Linear.{action-in-range}
+use Rattle.theory.proofs.Lookups.{every-added}
+use Rattle.theory.proofs.linear.theory.LinearTheory.add_action.Needs as need
+
+pub ghost-self : need.ghost-self
+ghost-self c =
+    let t = c .args .self .now in
+    let answer = c .add-row .ensures .answer ∙ ap (λ (b : Bool). row-answer Action (1 + c .len-number .result) b (ltb (length (items (t .actions))) 32)) (c .is-in-range-in-range .ensures) in
+    (t .«guards_in_range», (every-added action-in-range (items (t .actions)) (items (c .add-row .last .rows)) (c .args .action) Action _ _ (told table-fault (c .add-row .result)) (t .«actions_in_range») answer (c .add-row .ensures .rows), tt))
