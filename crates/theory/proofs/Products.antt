@@ -10,7 +10,7 @@ use mir.Syntax.{w64, w128}
 use mir.Val.{SFits, toZ, ofZ}
 use Rattle.std.proofs.shelf.Signed.{ints, toZ-ofZ}
 use Rattle.std.proofs.shelf.Tests.{leb-true}
-use Rattle.theory.specs.Linear.{is-factor}
+use Rattle.theory.specs.LinearForms.{is-factor}
 
 natAbs-neg : (n : ℕ) → natAbs (negℤ (pos n)) ≡ n
 natAbs-neg zero = refl

@@ -1,4 +1,4 @@
-pub mod Numbered
-pub mod Linear
+pub mod Rows
+pub mod LinearForms
 pub mod LinearLaws
-pub mod LinearMeaning
+pub mod Linear

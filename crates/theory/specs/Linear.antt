@@ -1,55 +1,54 @@
--- Linear theories: a guard compares m × A + n × B + c with 0, an action writes that sum.
-use mathlib.Core.Bool.{Bool, cond, not, _&&_, _||_}
-use mathlib.Core.List.{List}
+-- Linear theories: what their rows mean.
+use mathlib.Core.Path.{_≡_, ap}
+use mathlib.Core.Bool.{Bool, cond, _&&_}
 use Prim.Native.Nat.{ℕ}
-use lib.Dec.{eqb, leb, ltb}
-use lib.IntN.{ℤ, pos, _+ℤ_, _*ℤ_, natAbs}
-use lib.Signed.{ltZ}
+use lib.Dec.{ltb}
+use lib.IntN.{pos}
 use Rattle.std.specs.declared.option.Option.{Option}
 use Rattle.std.specs.declared.option.Option.the-variants.{Some, None}
-use Rattle.qea.specs.Limits.{places, registers}
-use Rattle.qea.specs.Values.{is-value, same}
-use Rattle.qea.specs.Meaning.{place}
-use Rattle.theory.specs.declared.linear.rows.Relation.{Relation}
-use Rattle.theory.specs.declared.linear.rows.Relation.the-variants.{Less, Equal, Greater}
-use Rattle.theory.specs.declared.linear.rows.LinearForm.{LinearForm}
+use Rattle.qea.specs.Limits.{registers}
+use Rattle.qea.specs.Meaning.{Guard, Action}
+use Rattle.theory.specs.declared.linear.form.Relation.{Relation}
+use Rattle.theory.specs.declared.linear.form.LinearForm.{LinearForm}
 use Rattle.theory.specs.declared.linear.rows.LinearGuard.{LinearGuard}
 use Rattle.theory.specs.declared.linear.rows.LinearAction.{LinearAction}
+use Rattle.theory.specs.LinearForms.{form-in-range, sum, form-reads, stands, value-of}
+use Rattle.theory.specs.LinearLaws.{sum-agrees, reads-within, value-in-range}
 
--- m and n lie from -max-factor to max-factor
-abbrev pub max-factor : ℕ
-max-factor = 1_000_000
+-- A guard holds if its form stands so to 0.
+abbrev pub linear-guard : LinearGuard → Guard
+linear-guard g = record {
+  reads = form-reads (g .form);
+  holds = λ row. stands (g .relation) (sum (g .form) row);
+  agrees = λ r s h. ap (stands (g .relation)) (sum-agrees (g .form) r s h);
+  reads-places = reads-within (g .form) (g .ranged);
+}
 
-abbrev pub is-factor : ℤ → Bool
-is-factor v = leb (natAbs v) max-factor
+-- An action writes its form's sum, and is out of range if that is no value.
+abbrev pub linear-action : LinearAction → Action
+linear-action x = record {
+  reads = form-reads (x .form);
+  result = λ row. value-of (sum (x .form) row);
+  register = x .register;
+  agrees = λ r s h. ap value-of (sum-agrees (x .form) r s h);
+  reads-places = reads-within (x .form) (x .ranged);
+  gives-value = λ r. value-in-range (sum (x .form) r);
+  writes-register = x .within;
+}
 
-abbrev pub form-in-range : LinearForm → Bool
-form-in-range f = is-factor (f .m) && ltb (f .a) places && is-factor (f .n) && ltb (f .b) places && is-value (f .c)
+-- A row has these numbers if they are in range, else there is no row.
+abbrev pub guard-numbers : LinearGuard → LinearForm × Relation
+guard-numbers g = (g .form, g .relation)
 
-abbrev pub guard-in-range : LinearGuard → Bool
-guard-in-range g = form-in-range (g .form)
+abbrev pub ranged-guard : LinearForm → Relation → Option (LinearForm × Relation)
+ranged-guard f relation = cond (form-in-range f) (Some (f, relation)) None
 
-abbrev pub action-in-range : LinearAction → Bool
-action-in-range x = ltb (x .register) registers && form-in-range (x .form)
+abbrev pub action-numbers : LinearAction → ℕ × LinearForm
+action-numbers x = (x .register, x .form)
 
-abbrev pub sum : LinearForm → List ℤ → ℤ
-sum f row = f .m *ℤ place row (f .a) +ℤ f .n *ℤ place row (f .b) +ℤ f .c
+abbrev pub ranged-action : ℕ → LinearForm → Option (ℕ × LinearForm)
+ranged-action register f = cond (ltb register registers && form-in-range f) (Some (register, f)) None
 
--- A is read unless m is 0, B unless n is 0
-abbrev pub form-reads : LinearForm → ℕ → Bool
-form-reads f i = not (same (f .m) (pos 0)) && eqb (f .a) i || not (same (f .n) (pos 0)) && eqb (f .b) i
-
-abbrev pub stands : Relation → ℤ → Bool
-stands Less z = ltZ z (pos 0)
-stands Equal z = same z (pos 0)
-stands Greater z = ltZ (pos 0) z
-
-abbrev pub guard-holds : LinearGuard → List ℤ → Bool
-guard-holds g row = stands (g .relation) (sum (g .form) row)
-
--- the number if it is a value, else 'out of range'
-abbrev pub value-of : ℤ → Option ℤ
-value-of z = cond (is-value z) (Some z) None
-
-abbrev pub action-result : LinearAction → List ℤ → Option ℤ
-action-result x row = value-of (sum (x .form) row)
+-- what unused slots of a theory hold
+abbrev pub zero-form : LinearForm
+zero-form = record { m = pos 0; a = 0; n = pos 0; b = 0; c = pos 0 }

@@ -1,4 +1,4 @@
--- The reading law of linear forms, and what a row in range keeps. The meaning of a theory carries these.
+-- The reading law of linear forms. The meaning of a linear theory carries it.
 use mathlib.Core.Path.{_≡_, refl, sym, ap, ap₂, subst, _∙_}
 use mathlib.Core.Bool.{Bool, true, false, cond, not, _&&_}
 use mathlib.Core.Logic.{⊎-elim}
@@ -10,13 +10,12 @@ use lib.IntN.{ℤ, pos, _+ℤ_, _*ℤ_, zero-*ℤ}
 use Rattle.std.specs.declared.option.Option.{Option}
 use Rattle.std.specs.declared.option.Option.the-variants.{Some, None}
 use Rattle.std.proofs.shelf.Tests.{and-parts, and-from, or-cases, or-left, or-right, eq-eqb, eqb-true, ltb-true}
-use Rattle.qea.specs.Limits.{places, registers}
+use Rattle.qea.specs.Limits.{places}
 use Rattle.qea.specs.Values.{is-value, same}
 use Rattle.qea.specs.Meaning.{place, Agree}
 use Rattle.qea.proofs.Sameness.{same-is}
-use Rattle.theory.specs.declared.linear.rows.LinearForm.{LinearForm}
-use Rattle.theory.specs.declared.linear.rows.LinearAction.{LinearAction}
-use Rattle.theory.specs.Linear.{form-in-range, action-in-range, is-factor, sum, form-reads, value-of}
+use Rattle.theory.specs.declared.linear.form.LinearForm.{LinearForm}
+use Rattle.theory.specs.LinearForms.{form-in-range, is-factor, sum, form-reads, value-of}
 
 -- a product does not depend on a number that its factor 0 leaves unread
 product-agrees : (m x y : ℤ) → (same m (pos 0) ≡ false → x ≡ y) → m *ℤ x ≡ m *ℤ y
@@ -47,12 +46,6 @@ reads-within f ok i e =
     (λ h. subst (λ (k : ℕ). k < places) (eqb-true (f .b) i (and-parts _ _ h .1)) (ltb-true (f .b) places (b-part .1)))
     (or-cases (not (same (f .m) (pos 0)) && eqb (f .a) i) (not (same (f .n) (pos 0)) && eqb (f .b) i) e)
 
-
-pub form-of-action : (x : LinearAction) → action-in-range x ≡ true → form-in-range (x .form) ≡ true
-form-of-action x ok = and-parts (ltb (x .register) registers) (form-in-range (x .form)) ok .1
-
-pub register-of-action : (x : LinearAction) → action-in-range x ≡ true → x .register < registers
-register-of-action x ok = ltb-true (x .register) registers (and-parts (ltb (x .register) registers) (form-in-range (x .form)) ok .0)
 
 -- what is told to be a value is one
 pub value-in-range : (z v : ℤ) → value-of z ≡ Some v → is-value v ≡ true

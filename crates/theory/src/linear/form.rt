@@ -1,108 +1,19 @@
-//! Forms and relations.
+//! Linear forms and relations.
 
-ghost use mathlib.Core.Bool.{true};
-ghost use mathlib.Core.Path.{_≡_};
-ghost use lib.IntN.{_*ℤ_};
-ghost use Rattle.theory.specs.Linear.{is-factor, form-in-range, guard-in-range, action-in-range, sum, form-reads, stands, guard-holds, value-of, action-result};
-use crate::linear::rows::LinearAction;
-use crate::linear::rows::LinearForm;
-use crate::linear::rows::LinearGuard;
-use crate::linear::rows::Relation;
-use qea::MAX_VALUE;
-use qea::PLACES;
-use qea::REGISTERS;
-use qea::is_value;
-
-// The factors m and n of a form lie from -MAX_FACTOR to MAX_FACTOR.
-pub const MAX_FACTOR: i64 = 1_000_000;
-
-fn is_factor(v: i64) -> bool
-    ensures { λ r. ⌜ r ≡ is-factor v ⌝ }
-{
-    -MAX_FACTOR <= v && v <= MAX_FACTOR
+// How a number stands to 0.
+#[derive(Clone, Copy)]
+pub enum Relation {
+    Less,
+    Equal,
+    Greater,
 }
 
-fn scaled(factor: i64, value: i64) -> i128
-    ensures { λ r. ⌜ r ≡ factor *ℤ value ⌝ }
-{
-    factor as i128 * value as i128
-}
-
-impl LinearForm {
-    pub(crate) fn is_in_range(&self) -> bool
-        ensures { λ r. ⌜ r ≡ form-in-range (now (self .entry)) ⌝ }
-    {
-        let places = PLACES as u8;
-        is_factor(self.m) && self.a < places && is_factor(self.n) && self.b < places && is_value(self.c)
-    }
-
-    // Any 64-bit numbers in the row are safe: the sum has 128 bits.
-    pub(crate) fn sum(&self, row: &[i64; PLACES]) -> i128
-        requires { ⌜ form-in-range (now self) ≡ true ⌝ }
-        ensures { λ r. ⌜ r ≡ sum (now (self .entry)) (now (row .entry)) ⌝ }
-    {
-        let a = scaled(self.m, row[self.a as usize]);
-        let b = scaled(self.n, row[self.b as usize]);
-        a + b + self.c as i128
-    }
-
-    // A is read unless m is 0, B unless n is 0.
-    pub(crate) fn reads(&self, place: u8) -> bool
-        ensures { λ r. ⌜ r ≡ form-reads (now (self .entry)) place ⌝ }
-    {
-        self.m != 0 && self.a == place || self.n != 0 && self.b == place
-    }
-}
-
-impl Relation {
-    // Whether a number stands so to 0.
-    pub(crate) fn holds(self, z: i128) -> bool
-        ensures { λ r. ⌜ r ≡ stands self z ⌝ }
-    {
-        match self {
-            Relation::Less => z < 0,
-            Relation::Equal => z == 0,
-            Relation::Greater => z > 0,
-        }
-    }
-}
-
-impl LinearGuard {
-    pub(crate) fn is_in_range(&self) -> bool
-        ensures { λ r. ⌜ r ≡ guard-in-range (now (self .entry)) ⌝ }
-    {
-        self.form.is_in_range()
-    }
-
-    pub(crate) fn holds(&self, row: &[i64; PLACES]) -> bool
-        requires { ⌜ guard-in-range (now self) ≡ true ⌝ }
-        ensures { λ r. ⌜ r ≡ guard-holds (now (self .entry)) (now (row .entry)) ⌝ }
-    {
-        self.relation.holds(self.form.sum(row))
-    }
-}
-
-impl LinearAction {
-    pub(crate) fn is_in_range(&self) -> bool
-        ensures { λ r. ⌜ r ≡ action-in-range (now (self .entry)) ⌝ }
-    {
-        (self.register as usize) < REGISTERS && self.form.is_in_range()
-    }
-
-    pub(crate) fn result(&self, row: &[i64; PLACES]) -> Option<i64>
-        requires { ⌜ action-in-range (now self) ≡ true ⌝ }
-        ensures { λ r. ⌜ r ≡ action-result (now (self .entry)) (now (row .entry)) ⌝ }
-    {
-        value_of(self.form.sum(row))
-    }
-}
-
-// The number if it is a value.
-fn value_of(z: i128) -> Option<i64>
-    ensures { λ r. ⌜ r ≡ value-of z ⌝ }
-{
-    if -(MAX_VALUE as i128) <= z && z <= MAX_VALUE as i128 {
-        return Some(z as i64);
-    }
-    None
+// The sum m × A + n × B + c, where A and B are what stands at the places `a` and `b`.
+#[derive(Clone, Copy)]
+pub struct LinearForm {
+    pub m: i64,
+    pub a: u8,
+    pub n: i64,
+    pub b: u8,
+    pub c: i64,
 }

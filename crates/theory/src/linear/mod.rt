@@ -1,8 +1,13 @@
-//! Linear theories.
+//! Linear theories: a guard compares m × A + n × B + c with 0, and an action writes that sum.
 
-mod calls;
-mod form;
+use crate::rows::theory::RowTheory;
+
+pub mod form;
+mod means;
 pub mod rows;
-pub mod theory;
+mod sums;
 
-pub use calls::LinearTheoryTheory;
+pub use means::LinearActionRow;
+pub use means::LinearGuardRow;
+
+pub type LinearTheory = RowTheory<rows::LinearGuard, rows::LinearAction>;

@@ -1,32 +1,25 @@
-//! The rows of a linear theory.
+//! The rows of a linear theory. Their types say that their numbers are in range.
 
-#[derive(Clone, Copy)]
-pub enum Relation {
-    Less,
-    Equal,
-    Greater,
-}
-
-// The sum m × A + n × B + c, where A and B are what stands at the places `a` and `b`.
-#[derive(Clone, Copy)]
-pub struct LinearForm {
-    pub m: i64,
-    pub a: u8,
-    pub n: i64,
-    pub b: u8,
-    pub c: i64,
-}
+ghost use mathlib.Core.Bool.{true};
+ghost use mathlib.Core.Path.{_≡_};
+ghost use Prim.Native.Nat.{_<_};
+ghost use Rattle.theory.specs.LinearForms.{form-in-range};
+use crate::linear::form::LinearForm;
+use crate::linear::form::Relation;
 
 // Holds if the form stands in this relation to 0.
-#[derive(Clone, Copy)]
+#[derive(Copy)]
 pub struct LinearGuard {
-    pub form: LinearForm,
-    pub relation: Relation,
+    pub(crate) form: LinearForm,
+    pub(crate) relation: Relation,
+    ghost ranged: { form-in-range form ≡ true },
 }
 
 // Writes the form's sum to a register.
-#[derive(Clone, Copy)]
+#[derive(Copy)]
 pub struct LinearAction {
-    pub register: u8,
-    pub form: LinearForm,
+    pub(crate) register: u8,
+    pub(crate) form: LinearForm,
+    ghost within: { register < 4 },
+    ghost ranged: { form-in-range form ≡ true },
 }

@@ -7,10 +7,10 @@ use lib.ListN.{getD}
 use mir.Syntax.{w64}
 use mir.Val.{SFits}
 use Rattle.std.proofs.shelf.Signed.{toZ-ofZ}
-use Rattle.theory.specs.Linear.{is-factor}
+use Rattle.theory.specs.LinearForms.{is-factor}
 use Rattle.theory.proofs.Products.{first-sum-fits, second-sum-fits, sum-is, scaled-small}
-use Rattle.theory.proofs.linear.rows.LinearForm.sum.Needs as need
-use Rattle.theory.proofs.linear.rows.LinearForm.sum.Needs.{After-scaled-b}
+use Rattle.theory.proofs.linear.form.LinearForm.sum.Needs as need
+use Rattle.theory.proofs.linear.form.LinearForm.sum.Needs.{After-scaled-b}
 
 -- the two products, and that they are small
 module _ (c : After-scaled-b) where
