@@ -4,6 +4,8 @@ use mathlib.Core.Bool.{Bool, cond}
 use mathlib.Core.List.{List, [], _∷_, _++_}
 use lib.Dec.{ltb}
 use lib.ListN.{length}
+use Rattle.std.specs.declared.option.Option.{Option}
+use Rattle.std.specs.declared.option.Option.the-variants.{Some, None}
 use Rattle.std.specs.declared.result.Result.{Result}
 use Rattle.std.specs.declared.result.Result.the-variants.{Ok, Err}
 use Rattle.qea.specs.declared.fault.RowKind.{RowKind}
@@ -37,3 +39,8 @@ adding kind most in-range rows = row-answer kind (next-row kind rows) in-range (
 abbrev pub added : {X : Type 0} → Result ℕ Description → List X → X → List X
 added (Ok n) rows x = rows ++ x ∷ []
 added (Err f) rows x = rows
+
+-- The same of a row that is there only if all its numbers are in range.
+abbrev pub added-if : {X : Type 0} → Result ℕ Description → List X → Option X → List X
+added-if answer rows None = rows
+added-if answer rows (Some x) = added answer rows x

@@ -1,10 +1,22 @@
 //! Theories: numbered guards and actions, and what they mean.
 
+mod circular;
 mod linear;
 mod rows;
 mod theory;
 
+pub use circular::CIRCLE;
+pub use circular::CircularActionDefault;
+pub use circular::CircularActionRow;
+pub use circular::CircularGuardDefault;
+pub use circular::CircularGuardRow;
+pub use circular::CircularTheory;
+pub use circular::reduced;
+pub use circular::rows::CircularAction;
+pub use circular::rows::CircularGuard;
+pub use linear::LinearActionDefault;
 pub use linear::LinearActionRow;
+pub use linear::LinearGuardDefault;
 pub use linear::LinearGuardRow;
 pub use linear::LinearTheory;
 pub use linear::form::LinearForm;

@@ -7,7 +7,9 @@ mod means;
 pub mod rows;
 mod sums;
 
+pub use means::LinearActionDefault;
 pub use means::LinearActionRow;
+pub use means::LinearGuardDefault;
 pub use means::LinearGuardRow;
 
 pub type LinearTheory = RowTheory<rows::LinearGuard, rows::LinearAction>;

@@ -1,0 +1,16 @@
+//! Circular theories, for bearings in tenths of a degree: a guard holds on an arc, and an action adds bearings.
+
+use crate::rows::theory::RowTheory;
+
+mod bearing;
+mod means;
+pub mod rows;
+
+pub use bearing::CIRCLE;
+pub use bearing::reduced;
+pub use means::CircularActionDefault;
+pub use means::CircularActionRow;
+pub use means::CircularGuardDefault;
+pub use means::CircularGuardRow;
+
+pub type CircularTheory = RowTheory<rows::CircularGuard, rows::CircularAction>;
