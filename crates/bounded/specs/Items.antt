@@ -2,7 +2,7 @@
 use Prim.Native.Nat.{ℕ}
 use mathlib.Core.Bool.{cond}
 use mathlib.Core.List.{List, [], _∷_, _++_}
-use lib.Dec.{ltb}
+use lib.Dec.{leb, ltb}
 use lib.ListN.{length, take}
 use Rattle.std.specs.declared.option.Option.{Option}
 use Rattle.std.specs.declared.option.Option.the-variants.{Some, None}
@@ -20,3 +20,7 @@ room-at most xs = cond (ltb (length xs) most) (Some (length xs)) None
 abbrev pub pushed : {T : Type 0} → Option ℕ → List T → T → List T
 pushed None xs x = xs
 pushed (Some at) xs x = xs ++ x ∷ []
+
+-- The list, if it has no more items than it may.
+abbrev pub fitting : {T : Type 0} → ℕ → List T → Option (List T)
+fitting most xs = cond (leb (length xs) most) (Some xs) None

@@ -3,8 +3,9 @@
 ghost use mathlib.Core.Path.{_≡_};
 ghost use mathlib.Core.List.{[]};
 ghost use lib.ListN.{length};
+ghost use Rattle.std.specs.Options.{mapped};
 ghost use Rattle.std.specs.shelf.Maps.{nth};
-ghost use Rattle.bounded.specs.Items.{items, room-at, pushed};
+ghost use Rattle.bounded.specs.Items.{items, room-at, pushed, fitting};
 
 mod list;
 
@@ -19,6 +20,17 @@ impl<T: Copy, const N: usize> BoundedList<T, N> {
             slots: [fill; N],
             len: 0,
         }
+    }
+
+    // These items, or none if there are too many. The other slots hold `fill`.
+    pub fn from_slice(fill: T, all: &[T]) -> Option<BoundedList<T, N>>
+        ensures { λ r. ⌜ mapped items r ≡ fitting N (now (all .entry)) ⌝ }
+    {
+        let mut list = BoundedList::empty(fill);
+        for item in all {
+            list.push(*item)?;
+        }
+        Some(list)
     }
 
     pub fn len(&self) -> usize

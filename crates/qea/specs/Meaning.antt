@@ -3,9 +3,9 @@
 use mathlib.Core.Path.{_≡_}
 use mathlib.Core.Bool.{Bool, true, false}
 use mathlib.Core.List.{List}
-use Prim.Native.Nat.{ℕ, zero, suc, _<_, _≤_}
+use Prim.Native.Nat.{ℕ, zero, suc, _+_, _<_, _≤_}
 use lib.IntN.{ℤ, pos}
-use lib.ListN.{getD}
+use lib.ListN.{getD, set}
 use Rattle.std.specs.declared.option.Option.{Option}
 use Rattle.std.specs.declared.option.Option.the-variants.{Some, None}
 use Rattle.std.specs.Options.{isSome}
@@ -68,3 +68,34 @@ action-reads (Some a) i = a .reads i
 abbrev pub action-writes : Option Action → ℕ
 action-writes None = 0
 action-writes (Some a) = a .register
+
+-- Guard 0 holds and action 0 writes nothing, without asking the theory; both are always there and read nothing.
+abbrev pub guard-there : Meaning → ℕ → Bool
+guard-there m zero = true
+guard-there m (suc n) = isSome (m .guard (suc n))
+
+abbrev pub action-there : Meaning → ℕ → Bool
+action-there m zero = true
+action-there m (suc n) = isSome (m .action (suc n))
+
+abbrev pub guard-reads-at : Meaning → ℕ → ℕ → Bool
+guard-reads-at m zero i = false
+guard-reads-at m (suc n) i = guard-reads (m .guard (suc n)) i
+
+abbrev pub action-reads-at : Meaning → ℕ → ℕ → Bool
+action-reads-at m zero i = false
+action-reads-at m (suc n) i = action-reads (m .action (suc n)) i
+
+abbrev pub holds : Meaning → ℕ → List ℤ → Bool
+holds m zero row = true
+holds m (suc n) row = guard-says (m .guard (suc n)) row
+
+-- the row with a value at a place, if there is one
+abbrev pub written : List ℤ → ℕ → Option ℤ → Option (List ℤ)
+written row at None = None
+written row at (Some v) = Some (set row at v)
+
+-- the row after an action, none if that is out of range; registers come after the variables
+abbrev pub acted : Meaning → ℕ → List ℤ → Option (List ℤ)
+acted m zero row = Some row
+acted m (suc n) row = written row (limits.max-quantifiers + action-writes (m .action (suc n))) (action-says (m .action (suc n)) row)

@@ -1,0 +1,4 @@
+pub mod Terms
+pub mod Model
+pub mod Sealing
+pub mod WellFormed

@@ -1,0 +1,47 @@
+-- The automaton that a table's rows make, and how a row call changes it.
+use mathlib.Core.List.{List, [], map}
+use Prim.Native.Nat.{ℕ}
+use lib.IntN.{ℤ}
+use Rattle.std.specs.declared.result.Result.{Result}
+use Rattle.bounded.specs.Items.{items}
+use Rattle.qea.specs.declared.fault.Description.{Description}
+use Rattle.qea.specs.declared.term.Term.{Term}
+use Rattle.qea.specs.declared.term.Pattern as declared
+use Rattle.qea.specs.declared.automaton.Quantifier.{Quantifier}
+use Rattle.qea.specs.declared.automaton.State.{State}
+use Rattle.qea.specs.declared.automaton.Transition.{Transition}
+use Rattle.qea.specs.Automaton.{Pattern, Automaton}
+use Rattle.qea.specs.Rows.{added}
+use Rattle.table.specs.declared.table.Table.{Table}
+
+abbrev pub pattern-of : declared.Pattern → Pattern
+pattern-of p = record { event = p .event; terms = items (p .terms) }
+
+abbrev pub automaton-of : Table → Automaton
+automaton-of t = record {
+  quantifiers = items (t .quantifiers);
+  starts = items (t .starts);
+  states = items (t .states);
+  patterns = map pattern-of (items (t .patterns));
+  transitions = items (t .transitions);
+}
+
+abbrev pub empty-automaton : Automaton
+empty-automaton = record { quantifiers = []; starts = []; states = []; patterns = []; transitions = [] }
+
+-- After a row call with this answer, one kind of row may have one more; the other kinds are the same.
+module _ (answer : Result ℕ Description) (a : Automaton) where
+  abbrev pub with-quantifier : Quantifier → Automaton
+  with-quantifier q = record { quantifiers = added answer (a .quantifiers) q; starts = a .starts; states = a .states; patterns = a .patterns; transitions = a .transitions }
+
+  abbrev pub with-start : ℤ → Automaton
+  with-start v = record { quantifiers = a .quantifiers; starts = added answer (a .starts) v; states = a .states; patterns = a .patterns; transitions = a .transitions }
+
+  abbrev pub with-state : State → Automaton
+  with-state s = record { quantifiers = a .quantifiers; starts = a .starts; states = added answer (a .states) s; patterns = a .patterns; transitions = a .transitions }
+
+  abbrev pub with-pattern : ℕ → List Term → Automaton
+  with-pattern n ts = record { quantifiers = a .quantifiers; starts = a .starts; states = a .states; patterns = added answer (a .patterns) (record { event = n; terms = ts }); transitions = a .transitions }
+
+  abbrev pub with-transition : Transition → Automaton
+  with-transition t = record { quantifiers = a .quantifiers; starts = a .starts; states = a .states; patterns = a .patterns; transitions = added answer (a .transitions) t }

@@ -1,0 +1,9 @@
+//! Rules: drafts take rows, and a draft is sealed with a theory.
+
+mod draft;
+mod table;
+mod terms;
+
+pub use table::Draft;
+pub use table::SealedTable;
+pub use table::Table;
