@@ -1,3 +1,4 @@
 pub mod Sameness
 pub mod Searching
 pub mod Growing
+pub mod Admitting

@@ -1,14 +1,14 @@
--- The first place that passes a test: how a loop finds it, and what it tells.
+-- The first place that passes a test: how a loop finds it, and what it tells. A list of which every place passes.
 use mathlib.Core.Path.{_≡_, refl, ap, sym, _∙_}
-use mathlib.Core.Bool.{Bool, true, false, cond, _||_}
+use mathlib.Core.Bool.{Bool, true, false, cond, _&&_, _||_}
 use mathlib.Core.List.{List, [], _∷_}
 use Prim.Native.Nat.{ℕ, zero, suc, _+_, _<_, _≤_}
 use native.Mathlib.Omega.{arith}
 use lib.ListN.{length, getD}
 use Rattle.std.specs.declared.option.Option.{Option}
 use Rattle.std.specs.declared.option.Option.the-variants.{Some, None}
-use Rattle.std.proofs.shelf.Tests.{cond-true, cond-false}
-use Rattle.qea.specs.Lists.{any, first-from}
+use Rattle.std.proofs.shelf.Tests.{cond-true, cond-false, and-from}
+use Rattle.qea.specs.Lists.{every, any, first-from}
 
 module _ {X : Type 0} (test : X → Bool) (d : X) where
   -- no place before i passes, and i does
@@ -26,6 +26,11 @@ module _ {X : Type 0} (test : X → Bool) (d : X) where
   first-missed n (x ∷ xs) none =
       cond-false (test x) (Some n) (first-from test (suc n) xs) (none 0 (omega arith))
       ∙ first-missed (suc n) xs (λ k lt. none (suc k) (omega arith))
+
+  -- each place passes
+  pub every-passed : (xs : List X) → ((k : ℕ) → k < length xs → test (getD xs k d) ≡ true) → every test xs ≡ true
+  every-passed [] each = refl
+  every-passed (x ∷ xs) each = and-from (test x) (every test xs) (each 0 (omega arith)) (every-passed xs (λ k lt. each (suc k) (omega arith)))
 
 -- A place is found exactly if some element passes.
 module _ {X : Type 0} (test : X → Bool) where

@@ -5,5 +5,7 @@ pub mod Faults
 pub mod Rows
 pub mod Domains
 pub mod DomainValues
+pub mod Events
+pub mod EventValues
 pub mod Meaning
 pub mod Automaton
