@@ -2,3 +2,4 @@ pub mod Sameness
 pub mod Searching
 pub mod Growing
 pub mod Admitting
+pub mod Everys

@@ -3,19 +3,27 @@ use mathlib.Core.List.{List, [], map}
 use Prim.Native.Nat.{ℕ}
 use lib.IntN.{ℤ}
 use Rattle.std.specs.declared.result.Result.{Result}
+use Rattle.std.specs.declared.result.Result.the-variants.{Ok, Err}
 use Rattle.bounded.specs.Items.{items}
 use Rattle.qea.specs.declared.fault.Description.{Description}
+use Rattle.qea.specs.declared.fault.TableFault.{TableFault}
 use Rattle.qea.specs.declared.term.Term.{Term}
 use Rattle.qea.specs.declared.term.Pattern as declared
 use Rattle.qea.specs.declared.automaton.Quantifier.{Quantifier}
 use Rattle.qea.specs.declared.automaton.State.{State}
 use Rattle.qea.specs.declared.automaton.Transition.{Transition}
 use Rattle.qea.specs.Automaton.{Pattern, Automaton}
+use Rattle.qea.specs.Faults.{table-fault}
 use Rattle.qea.specs.Rows.{added}
 use Rattle.table.specs.declared.table.Table.{Table}
 
 abbrev pub pattern-of : declared.Pattern → Pattern
 pattern-of p = record { event = p .event; terms = items (p .terms) }
+
+-- the answer of a call that makes a pattern, in numbers
+abbrev pub pattern-told : Result declared.Pattern TableFault → Result Pattern Description
+pattern-told (Ok p) = Ok (pattern-of p)
+pattern-told (Err f) = Err (table-fault f)
 
 abbrev pub automaton-of : Table → Automaton
 automaton-of t = record {

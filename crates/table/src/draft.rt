@@ -14,7 +14,7 @@ ghost use Rattle.table.specs.Model.{automaton-of, empty-automaton, with-quanti
 ghost use Rattle.table.specs.Terms.{term-in-range};
 use crate::table::Draft;
 use crate::table::Table;
-use crate::terms::all_in_range;
+use crate::terms::pattern_from;
 use bounded::BoundedList;
 use qea::Kind;
 use qea::Mode;
@@ -111,19 +111,7 @@ impl Draft {
         ensures rows { λ r. ⌜ automaton-of (now (self .exit) .table) ≡ with-pattern (told table-fault r) (automaton-of (now (self .entry) .table)) event (now (terms .entry)) ⌝ }
     {
         let number = self.table.patterns.len();
-        if !all_in_range(terms) {
-            return Err(TableFault::OutOfRange {
-                kind: RowKind::Pattern,
-                row: number,
-            });
-        }
-        let Some(terms) = BoundedList::from_slice(Term::Blank, terms) else {
-            return Err(TableFault::TooMany {
-                kind: RowKind::Pattern,
-                row: number,
-            });
-        };
-        let pattern = Pattern { event, terms };
+        let pattern = pattern_from(number, event, terms)?;
         let row = add_row(&mut self.table.patterns, RowKind::Pattern, number, Some(pattern))?;
         Ok(row as u8)
     }
