@@ -34,8 +34,11 @@ abbrev pub row-fault : RowKind → ℕ → Bool → Bool → Option Description
 row-fault kind row absent misread = cond absent (Some (in-row 6 kind row)) (cond misread (Some (in-row 7 kind row)) None)
 
 -- Quantifier k: its guard is there, and reads no register and no later variable.
+abbrev pub misplaced : Meaning → ℕ → Quantifier → ℕ → Bool
+misplaced m k q i = (leb max-quantifiers i || ltb k i) && guard-reads-at m (q .guard) i
+
 abbrev pub quantifier-misreads : Meaning → ℕ → Quantifier → Bool
-quantifier-misreads m k q = any (λ i. (leb max-quantifiers i || ltb k i) && guard-reads-at m (q .guard) i) all-places
+quantifier-misreads m k q = any (misplaced m k q) all-places
 
 abbrev pub quantifier-fault : Automaton → Meaning → ℕ → Quantifier → Option Description
 quantifier-fault a m k q = row-fault quantifier k (not (guard-there m (q .guard))) (quantifier-misreads m k q)
@@ -65,9 +68,14 @@ abbrev pub transition-lacks : Automaton → Meaning → Transition → Bool
 transition-lacks a m t =
     leb (length (a .states)) (t .from) || leb (length (a .patterns)) (t .pattern) || not (guard-there m (t .guard)) || not (action-there m (t .action)) || leb (length (a .states)) (t .to)
 
+abbrev pub misread : Meaning → Transition → List Term → ℕ → Bool
+misread m t terms i = (guard-reads-at m (t .guard) i || action-reads-at m (t .action) i) && not (any (is-variable i) terms)
+
+abbrev pub misreads-among : Meaning → Transition → List Term → Bool
+misreads-among m t terms = any (misread m t terms) variables
+
 abbrev pub transition-misreads : Automaton → Meaning → Transition → Bool
-transition-misreads a m t =
-    any (λ i. (guard-reads-at m (t .guard) i || action-reads-at m (t .action) i) && not (any (is-variable i) (terms-of (nth (a .patterns) (t .pattern))))) variables
+transition-misreads a m t = misreads-among m t (terms-of (nth (a .patterns) (t .pattern)))
 
 abbrev pub transition-fault : Automaton → Meaning → ℕ → Transition → Option Description
 transition-fault a m k t = row-fault transition k (transition-lacks a m t) (transition-misreads a m t)

@@ -1,5 +1,6 @@
 //! Rules: drafts take rows, and a draft is sealed with a theory.
 
+mod checks;
 mod draft;
 mod table;
 mod terms;
