@@ -4,3 +4,4 @@ pub mod Members
 pub mod Faultless
 pub mod Fitting
 pub mod Deciding
+pub mod FirstFaults

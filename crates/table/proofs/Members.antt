@@ -1,11 +1,12 @@
--- What stands in a list stands at a place of it, and a place below its length has something.
+-- What stands in a list stands at a place of it; a place below its length has something; and a mapped list has the same places.
 use mathlib.Core.Path.{_≡_, refl}
 use mathlib.Core.Logic.{inl, inr}
-use mathlib.Core.List.{List, [], _∷_}
+use mathlib.Core.List.{List, [], _∷_, map}
 use Prim.Native.Nat.{ℕ, zero, suc, _<_}
 use native.Mathlib.Omega.{arith}
 use lib.ListN.{length}
 use Rattle.std.specs.declared.option.Option.the-variants.{Some}
+use Rattle.std.specs.Options.{mapped}
 use Rattle.std.specs.shelf.Maps.{nth}
 use Rattle.std.proofs.shelf.Tests.{false≢true}
 use Rattle.qea.specs.Lists.{In}
@@ -30,3 +31,8 @@ module _ {X : Type 0} where
   nth-below [] i x is = absurd (false≢true cc)
   nth-below (y ∷ ys) zero x is = omega arith
   nth-below (y ∷ ys) (suc i) x is = let below = nth-below ys i x is in omega arith
+
+pub nth-map : {X Y : Type 0} (f : X → Y) (xs : List X) (n : ℕ) → nth (map f xs) n ≡ mapped f (nth xs n)
+nth-map f [] n = refl
+nth-map f (x ∷ xs) zero = refl
+nth-map f (x ∷ xs) (suc n) = nth-map f xs n
