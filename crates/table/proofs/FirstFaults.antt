@@ -3,15 +3,19 @@ use mathlib.Core.Path.{_≡_, refl, sym, ap, _∙_}
 use mathlib.Core.List.{List, [], _∷_, map}
 use Prim.Native.Nat.{ℕ, suc, _+_, _<_, _≤_}
 use native.Mathlib.Numerals.{add-one}
+use lib.Dec.{eqb}
 use lib.ListN.{length, getD, drop}
 use Rattle.std.specs.declared.option.Option.{Option}
 use Rattle.std.specs.declared.option.Option.the-variants.{Some, None}
 use Rattle.std.specs.declared.result.Result.{Result}
 use Rattle.std.specs.declared.result.Result.the-variants.{Ok, Err}
 use Rattle.std.proofs.shelf.Lists.{at-drop-more, at-drop-all}
-use Rattle.std.proofs.shelf.Tests.{false≢true}
+use Rattle.std.proofs.shelf.Tests.{false≢true, cond-false, ne-eqb}
 use Rattle.qea.specs.declared.fault.Description.{Description}
-use Rattle.table.specs.Sealing.{or-else, first-fault, unless}
+use Rattle.qea.specs.declared.fault.RowKind.the-variants.{State as state}
+use Rattle.qea.specs.Automaton.{Automaton}
+use Rattle.qea.specs.Faults.{in-row}
+use Rattle.table.specs.Sealing.{or-else, first-fault, no-state, unless}
 
 granted : (o : Option Description) → Ok tt ≡ unless o → o ≡ None
 granted None e = refl
@@ -46,3 +50,15 @@ module _ {X : Type 0} (fault : ℕ → X → Option Description) (rows : List X)
 pub first-fault-map : {X Y : Type 0} (f : X → Y) (fault : ℕ → Y → Option Description) (k : ℕ) (rows : List X) → first-fault (λ n x. fault n (f x)) k rows ≡ first-fault fault k (map f rows)
 first-fault-map f fault k [] = refl
 first-fault-map f fault k (x ∷ rows) = ap (or-else (fault k (f x))) (first-fault-map f fault (suc k) rows)
+
+-- One check after another: the first that refuses decides.
+pub passed-on : (o rest : Option Description) → Ok tt ≡ unless o → unless rest ≡ unless (or-else o rest)
+passed-on None rest e = refl
+passed-on (Some d) rest e = absurd (false≢true cc)
+
+pub stopped : (o rest : Option Description) (d : Description) → Err d ≡ unless o → Err d ≡ unless (or-else o rest)
+stopped None rest d e = absurd (false≢true cc)
+stopped (Some c) rest d e = e
+
+pub some-state : (a : Automaton) → (length (a .states) ≡ 0 → ⊥) → Ok tt ≡ unless (no-state a)
+some-state a some = sym (ap unless (cond-false (eqb (length (a .states)) 0) (Some (in-row 8 state 0)) None (ne-eqb (length (a .states)) 0 some)))

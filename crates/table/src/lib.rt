@@ -2,6 +2,7 @@
 
 mod checks;
 mod draft;
+mod sealed;
 mod sealing;
 mod table;
 mod terms;

@@ -11,7 +11,7 @@ ghost use Rattle.qea.specs.Faults.{table-fault, told};
 ghost use Rattle.qea.specs.Meaning.{Meaning};
 ghost use Rattle.qea.specs.declared.fault.Description.{Description as Described};
 ghost use Rattle.table.specs.Model.{pattern-of, automaton-of};
-ghost use Rattle.table.specs.Sealing.{quantifier-fault, pattern-fault, terms-of, transition-fault, first-fault, unless};
+ghost use Rattle.table.specs.Sealing.{quantifier-fault, pattern-fault, terms-of, transition-fault, first-fault, unless, sealing};
 use crate::checks::lacks_quantifier;
 use crate::checks::quantifier_misreads;
 use crate::checks::transition_lacks;
@@ -29,7 +29,7 @@ use theory::Theory;
 use theory::guard_is_there;
 
 // A row that sealing checks.
-pub(crate) trait CheckedRow {
+trait CheckedRow {
     // The fault of this row, which has this number, if it has one.
     ghost fault: { Automaton → Meaning → ℕ → Self → Option Described };
 
@@ -91,7 +91,7 @@ impl CheckedRow for Transition as CheckedTransition {
 }
 
 // The fault of the first row that has one.
-pub(crate) fn check_rows<R: CheckedRow, T: Theory>(
+fn check_rows<R: CheckedRow, T: Theory>(
     rows: &[R],
     table: &Table,
     theory: &T,
@@ -102,4 +102,16 @@ pub(crate) fn check_rows<R: CheckedRow, T: Theory>(
         rows[i].check(i, table, theory)?;
     }
     Ok(())
+}
+
+// The first fault of a table: no state, then quantifiers, patterns and transitions in order.
+pub(crate) fn check_table<T: Theory>(table: &Table, theory: &T) -> Result<(), TableFault>
+    ensures { λ r. ⌜ told table-fault r ≡ sealing (automaton-of (now (table .entry))) (T·Theory .meaning (now (theory .entry))) ⌝ }
+{
+    if table.states.len() == 0 {
+        return Err(TableFault::NoState);
+    }
+    check_rows(table.quantifiers.as_slice(), table, theory)?;
+    check_rows(table.patterns.as_slice(), table, theory)?;
+    check_rows(table.transitions.as_slice(), table, theory)
 }
