@@ -1,0 +1,6 @@
+//! Tries the distance-to-go rule.
+
+mod rule;
+mod trial;
+
+fn main() {}

@@ -1,0 +1,109 @@
+//! The distance-to-go rule, built by calls.
+
+ghost use mathlib.Core.List.{[], _∷_, map};
+ghost use mathlib.Core.Path.{_≡_};
+ghost use Rattle.std.specs.Vec.{made};
+ghost use Rattle.bounded.specs.Items.{items};
+ghost use Rattle.theory.specs.Linear.{guard-numbers, action-numbers};
+ghost use Rattle.theory.specs.declared.linear.form.Relation.the-variants.{Less};
+ghost use Rattle.table.specs.Model.{automaton-of};
+ghost use Rattle.monitor.specs.Distance.{distance-rule, shortfall, lengthened};
+use qea::Kind;
+use qea::Mode;
+use qea::Quantifier;
+use qea::State;
+use qea::TableFault;
+use qea::Term;
+use qea::Transition;
+use table::Draft;
+use theory::LinearAction;
+use theory::LinearActionDefault;
+use theory::LinearForm;
+use theory::LinearGuard;
+use theory::LinearGuardDefault;
+use theory::LinearTheory;
+use theory::Relation;
+
+// Events.
+const LEG: u8 = 1;
+const PANEL: u8 = 2;
+
+// The one quantified variable.
+const ROUTE: u8 = 0;
+
+// Registers: the length of the latest leg, the sum of the legs, and the latest figure on the panel.
+const LENGTH: u8 = 0;
+const SUM: u8 = 1;
+const FIGURE: u8 = 2;
+
+// The same registers' places in a row of guards and actions, which has the four variables first.
+pub const LENGTH_PLACE: u8 = 4;
+pub const SUM_PLACE: u8 = 5;
+pub const FIGURE_PLACE: u8 = 6;
+
+// States, and the guard and the action of the theory.
+const GOOD: u8 = 0;
+const FAILED: u8 = 1;
+pub const SHOWS_TOO_LITTLE: u8 = 1;
+pub const ADDS_LENGTH: u8 = 1;
+
+// The theory of the rule. A length is in thousandths of a mile, and a figure in tenths.
+pub fn distance_theory() -> Result<LinearTheory, TableFault>
+    ensures guards { λ r. ⌜ made r (λ t. map guard-numbers (items (t .guards)) ≡ (shortfall, Less) ∷ []) ⌝ }
+    ensures actions { λ r. ⌜ made r (λ t. map action-numbers (items (t .actions)) ≡ (1, lengthened) ∷ []) ⌝ }
+{
+    let mut theory = LinearTheory::empty();
+    let shortfall = LinearForm {
+        m: 100,
+        a: FIGURE_PLACE,
+        n: -1,
+        b: SUM_PLACE,
+        c: 50,
+    };
+    theory.add_guard(LinearGuard::new(shortfall, Relation::Less))?;
+    let lengthened = LinearForm {
+        m: 1,
+        a: SUM_PLACE,
+        n: 1,
+        b: LENGTH_PLACE,
+        c: 0,
+    };
+    theory.add_action(LinearAction::new(SUM, lengthened))?;
+    Ok(theory)
+}
+
+// The rows of the rule: state 0 is good, and state 1, which is not final, has failed.
+pub fn distance_draft() -> Result<Draft, TableFault>
+    ensures { λ r. ⌜ made r (λ d. automaton-of (d .table) ≡ distance-rule) ⌝ }
+{
+    let mut draft = Draft::new();
+    draft.add_quantifier(Quantifier {
+        kind: Kind::ForAll,
+        guard: 0,
+    })?;
+    draft.add_state(State {
+        mode: Mode::Skip,
+        accepting: true,
+    })?;
+    draft.add_state(State {
+        mode: Mode::Skip,
+        accepting: false,
+    })?;
+    let leg = draft.add_pattern(LEG, &[Term::Variable(ROUTE), Term::Register(LENGTH)])?;
+    let panel = draft.add_pattern(PANEL, &[Term::Variable(ROUTE), Term::Register(FIGURE)])?;
+    draft.add_transition(Transition {
+        from: GOOD,
+        pattern: leg,
+        guard: 0,
+        action: ADDS_LENGTH,
+        to: GOOD,
+    })?;
+    draft.add_transition(Transition {
+        from: GOOD,
+        pattern: panel,
+        guard: SHOWS_TOO_LITTLE,
+        action: 0,
+        to: FAILED,
+    })?;
+    Ok(draft)
+}
