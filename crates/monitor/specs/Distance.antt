@@ -10,7 +10,7 @@ use Rattle.qea.specs.declared.automaton.Kind.the-variants.{ForAll}
 use Rattle.qea.specs.declared.automaton.Mode.the-variants.{Skip}
 use Rattle.qea.specs.Automaton.{Automaton}
 use Rattle.qea.specs.Meaning.{Meaning, acted, holds, place}
-use Rattle.theory.specs.declared.linear.form.LinearForm.{LinearForm}
+use Rattle.linear_theory.specs.declared.form.LinearForm.{LinearForm}
 
 -- For all routes: a leg (event 1: route, length) adds its length to the sum; a panel (event 2: route, figure) that shows too little fails.
 abbrev pub distance-rule : Automaton

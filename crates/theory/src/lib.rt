@@ -1,8 +1,6 @@
-//! Theories: numbered guards and actions, and what they mean.
+//! Theories: numbered guards and actions, what they mean, and theories that are given by rows.
 
 mod asked;
-mod circular;
-mod linear;
 mod rows;
 mod theory;
 
@@ -12,24 +10,6 @@ pub use asked::action_reads_place;
 pub use asked::guard_holds;
 pub use asked::guard_is_there;
 pub use asked::guard_reads_place;
-pub use circular::CIRCLE;
-pub use circular::CircularActionDefault;
-pub use circular::CircularActionRow;
-pub use circular::CircularGuardDefault;
-pub use circular::CircularGuardRow;
-pub use circular::CircularTheory;
-pub use circular::reduced;
-pub use circular::rows::CircularAction;
-pub use circular::rows::CircularGuard;
-pub use linear::LinearActionDefault;
-pub use linear::LinearActionRow;
-pub use linear::LinearGuardDefault;
-pub use linear::LinearGuardRow;
-pub use linear::LinearTheory;
-pub use linear::form::LinearForm;
-pub use linear::form::Relation;
-pub use linear::rows::LinearAction;
-pub use linear::rows::LinearGuard;
 pub use rows::RowTheoryTheory;
 pub use rows::row::ActionRow;
 pub use rows::row::GuardRow;

@@ -1,0 +1,3 @@
+pub mod Bearings
+pub mod Laws
+pub mod Rows

@@ -1,5 +1,0 @@
-use Rattle.theory.proofs.Products.{product-is}
-use Rattle.theory.proofs.linear.sums.scaled.Needs as need
-
-pub returns : need.returns
-returns c = product-is (c .args .factor) (c .args .value) (c .fits .factor) (c .fits .value)
