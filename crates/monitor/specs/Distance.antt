@@ -34,14 +34,14 @@ lengthened = record { m = pos 1; a = 5; n = pos 1; b = 4; c = pos 0 }
 abbrev pub trial-row : ℤ → ℤ → ℤ → List ℤ
 trial-row length sum figure = pos 0 ∷ pos 0 ∷ pos 0 ∷ pos 0 ∷ length ∷ sum ∷ figure ∷ pos 0 ∷ []
 
-abbrev pub then-acted : Meaning → ℕ → Option (List ℤ) → Option (List ℤ)
-then-acted m action None = None
-then-acted m action (Some row) = acted m action row
+abbrev pub and-then : Option (List ℤ) → (List ℤ → Option (List ℤ)) → Option (List ℤ)
+and-then None go = None
+and-then (Some row) go = go row
 
--- the row after an action was taken so many times
+-- the row after an action was taken so many times, none if it went out of range
 abbrev pub acted-times : Meaning → ℕ → ℕ → List ℤ → Option (List ℤ)
 acted-times m action zero row = Some row
-acted-times m action (suc n) row = then-acted m action (acted-times m action n row)
+acted-times m action (suc n) row = and-then (acted m action row) (λ r. acted-times m action n r)
 
 abbrev pub sum-in : Option (List ℤ) → Option ℤ
 sum-in None = None

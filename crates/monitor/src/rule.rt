@@ -16,11 +16,15 @@ use qea::TableFault;
 use qea::Term;
 use qea::Transition;
 use table::Draft;
+use table::SealedTable;
+use theory::RowTheoryTheory;
 use linear_theory::LinearAction;
 use linear_theory::LinearActionDefault;
+use linear_theory::LinearActionRow;
 use linear_theory::LinearForm;
 use linear_theory::LinearGuard;
 use linear_theory::LinearGuardDefault;
+use linear_theory::LinearGuardRow;
 use linear_theory::LinearTheory;
 use linear_theory::Relation;
 
@@ -106,4 +110,14 @@ pub fn distance_draft() -> Result<Draft, TableFault>
         to: FAILED,
     })?;
     Ok(draft)
+}
+
+// The rule, sealed with its theory.
+pub fn sealed_rule() -> Result<SealedTable<LinearTheory>, TableFault>
+    ensures { λ r. ⌜ made r (λ s. automaton-of (s .table) ≡ distance-rule) ⌝ }
+{
+    let draft = distance_draft()?;
+    let theory = distance_theory()?;
+    draft.can_seal(&theory)?;
+    Ok(draft.seal(theory))
 }

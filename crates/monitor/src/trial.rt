@@ -18,14 +18,22 @@ fn trial_row(length: i64, sum: i64, figure: i64) -> [i64; PLACES]
     [0, 0, 0, 0, length, sum, figure, 0]
 }
 
-// The sum after so many legs of one length, or none if it went out of range.
-pub fn sum_of_legs<T: Theory>(rule: &SealedTable<T>, legs: u32, length: i64) -> Option<i64>
-    ensures { λ r. ⌜ r ≡ sum-in (acted-times (T·Theory .meaning (now (rule .entry) .theory)) 1 legs (trial-row length (pos 0) (pos 0))) ⌝ }
+// The row after so many legs, or none if the sum went out of range.
+fn after_legs<T: Theory>(rule: &SealedTable<T>, legs: u32, start: [i64; PLACES]) -> Option<[i64; PLACES]>
+    ensures { λ r. ⌜ r ≡ acted-times (T·Theory .meaning (now (rule .entry) .theory)) 1 legs start ⌝ }
 {
-    let mut row = trial_row(length, 0, 0);
-    for _ in 0..legs {
+    let mut row = start;
+    for _leg in 0..legs {
         row = rule.act(ADDS_LENGTH, &row)?;
     }
+    Some(row)
+}
+
+// The sum after so many legs more of one length, or none if it went out of range.
+pub fn sum_after<T: Theory>(rule: &SealedTable<T>, sum: i64, legs: u32, length: i64) -> Option<i64>
+    ensures { λ r. ⌜ r ≡ sum-in (acted-times (T·Theory .meaning (now (rule .entry) .theory)) 1 legs (trial-row length sum (pos 0))) ⌝ }
+{
+    let row = after_legs(rule, legs, trial_row(length, sum, 0))?;
     Some(row[SUM_PLACE as usize])
 }
 

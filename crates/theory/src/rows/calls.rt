@@ -43,6 +43,20 @@ impl<G: Copy + Default, A: Copy + Default> RowTheory<G, A> {
 }
 
 impl<G: Copy, A: Copy> RowTheory<G, A> {
+    // The guards in order; the first has number 1.
+    pub fn guards(&self) -> &[G]
+        ensures { λ r. ⌜ now r ≡ items (now (self .entry) .guards) ⌝ }
+    {
+        self.guards.as_slice()
+    }
+
+    // The actions in order; the first has number 1.
+    pub fn actions(&self) -> &[A]
+        ensures { λ r. ⌜ now r ≡ items (now (self .entry) .actions) ⌝ }
+    {
+        self.actions.as_slice()
+    }
+
     // Adds a guard and answers its number. None stands for a row with a number out of range.
     pub fn add_guard(&mut self, guard: Option<G>) -> Result<u8, TableFault>
         ensures answer { λ r. ⌜ told table-fault r ≡ adding Guard max-guards (isSome guard) (items (now (self .entry) .guards)) ⌝ }
