@@ -7,10 +7,10 @@ use crate::bearing::CIRCLE;
 use crate::bearing::reduced;
 use crate::rows::CircularAction;
 use crate::rows::CircularGuard;
-use theory::ActionRow;
-use theory::GuardRow;
 use qea::PLACES;
 use qea::REGISTERS;
+use theory::ActionRow;
+use theory::GuardRow;
 
 impl CircularGuard {
     // The guard, or none if a number is out of range.
@@ -54,7 +54,11 @@ impl CircularAction {
     pub fn new(register: u8, a: u8, b: u8, c: u16) -> Option<CircularAction>
         ensures { λ r. ⌜ mapped action-numbers r ≡ ranged-action register a b c ⌝ }
     {
-        if register as usize >= REGISTERS || a as usize >= PLACES || b as usize >= PLACES || c >= CIRCLE {
+        if register as usize >= REGISTERS
+            || a as usize >= PLACES
+            || b as usize >= PLACES
+            || c >= CIRCLE
+        {
             return None;
         }
         Some(CircularAction { register, a, b, c })

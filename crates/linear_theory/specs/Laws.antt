@@ -46,7 +46,6 @@ reads-within f ok i e =
     (λ h. subst (λ (k : ℕ). k < places) (eqb-true (f .b) i (and-parts _ _ h .1)) (ltb-true (f .b) places (b-part .1)))
     (or-cases (not (same (f .m) (pos 0)) && eqb (f .a) i) (not (same (f .n) (pos 0)) && eqb (f .b) i) e)
 
-
 -- what is told to be a value is one
 pub value-in-range : (z v : ℤ) → value-of z ≡ Some v → is-value v ≡ true
 value-in-range z v e = go (is-value z) refl e

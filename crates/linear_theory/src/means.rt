@@ -9,10 +9,10 @@ use crate::form::Relation;
 use crate::rows::LinearAction;
 use crate::rows::LinearGuard;
 use crate::sums::value_of;
-use theory::ActionRow;
-use theory::GuardRow;
 use qea::PLACES;
 use qea::REGISTERS;
+use theory::ActionRow;
+use theory::GuardRow;
 
 // What unused slots of a theory hold.
 const ZERO_FORM: LinearForm = LinearForm {

@@ -30,7 +30,11 @@ impl LinearForm {
         ensures { λ r. ⌜ r ≡ form-in-range (now (self .entry)) ⌝ }
     {
         let places = PLACES as u8;
-        is_factor(self.m) && self.a < places && is_factor(self.n) && self.b < places && is_value(self.c)
+        is_factor(self.m)
+            && self.a < places
+            && is_factor(self.n)
+            && self.b < places
+            && is_value(self.c)
     }
 
     // Any 64-bit numbers in the row are safe: the sum has 128 bits.

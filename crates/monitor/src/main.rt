@@ -1,9 +1,9 @@
 //! Builds the distance-to-go rule by calls, seals it, and tries it on the legs and panels of standard input.
 
-use crate::rule::sealed_rule;
 use crate::step::Step;
-use crate::trial::shows_too_little;
-use crate::trial::sum_after;
+use distance::sealed_rule;
+use distance::shows_too_little;
+use distance::sum_after;
 use linear_theory::LinearActionRow;
 use linear_theory::LinearGuardRow;
 use linear_theory::LinearTheory;
@@ -11,9 +11,7 @@ use std::error::AnyError;
 use table::SealedTable;
 use theory::RowTheoryTheory;
 
-mod rule;
 mod step;
-mod trial;
 
 fn main(rt: LibcRuntime) -> Result<(), AnyError> {
     rt.report(run(&rt))
@@ -36,20 +34,19 @@ fn run(rt: &LibcRuntime) -> Result<(), AnyError> {
 // How many rows of each kind the rule has.
 fn show_rows(rt: &LibcRuntime, rule: &SealedTable<LinearTheory>) -> Result<(), AnyError> {
     let table = rule.table();
-    let quantifiers = table.quantifiers.len();
-    let starts = table.starts.len();
-    let states = table.states.len();
-    let guards = rule.theory().guards().len();
-    let actions = rule.theory().actions().len();
-    let patterns = table.patterns.len();
-    let transitions = table.transitions.len();
-    println!(rt, "quantifiers {quantifiers}")?;
-    println!(rt, "starts {starts}")?;
-    println!(rt, "states {states}")?;
-    println!(rt, "guards {guards}")?;
-    println!(rt, "actions {actions}")?;
-    println!(rt, "patterns {patterns}")?;
-    println!(rt, "transitions {transitions}")?;
+    let theory = rule.theory();
+    let rows = [
+        ("quantifiers", table.quantifiers.len()),
+        ("starts", table.starts.len()),
+        ("states", table.states.len()),
+        ("guards", theory.guards().len()),
+        ("actions", theory.actions().len()),
+        ("patterns", table.patterns.len()),
+        ("transitions", table.transitions.len()),
+    ];
+    for (kind, count) in rows {
+        println!(rt, "{kind} {count}")?;
+    }
     println!(rt, "sealed")?;
     Ok(())
 }
@@ -101,7 +98,10 @@ fn show_panel(
     if shows_too_little(rule, sum, figure) {
         println!(rt, "panel {figure}: the guard to the failing state holds")?;
     } else {
-        println!(rt, "panel {figure}: the guard to the failing state does not hold")?;
+        println!(
+            rt,
+            "panel {figure}: the guard to the failing state does not hold"
+        )?;
     }
     Ok(())
 }

@@ -12,6 +12,7 @@ pub const REGISTERS: usize = 4;
 pub const PLACES: usize = 8;
 
 pub const MAX_STATES: usize = 16;
+
 pub const MAX_PATTERNS: usize = 16;
 
 // The most terms of a pattern, and the most values of an event.
@@ -21,7 +22,9 @@ pub const MAX_TRANSITIONS: usize = 48;
 
 // Of a theory.
 pub const MAX_GUARDS: usize = 32;
+
 pub const MAX_ACTIONS: usize = 32;
 
 pub const MAX_DOMAIN: usize = 64;
+
 pub const MAX_CONFIGURATIONS: usize = 8;

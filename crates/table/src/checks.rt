@@ -18,6 +18,7 @@ use theory::guard_reads_place;
 
 // The variables' numbers, which are also their places. The registers' places come after them.
 const VARIABLES: [u8; MAX_QUANTIFIERS] = [0, 1, 2, 3];
+
 const ALL_PLACES: [u8; PLACES] = [0, 1, 2, 3, 4, 5, 6, 7];
 
 // Whether the guard of quantifier k reads this place although it is a register's or a later variable's.
@@ -104,7 +105,11 @@ fn is_misread<T: Theory>(theory: &T, transition: Transition, terms: &[Term], var
 }
 
 // Whether a transition's guard or action reads any variable that is not among its pattern's terms.
-pub(crate) fn transition_misreads<T: Theory>(theory: &T, transition: Transition, terms: &[Term]) -> bool
+pub(crate) fn transition_misreads<T: Theory>(
+    theory: &T,
+    transition: Transition,
+    terms: &[Term],
+) -> bool
     ensures { λ r. ⌜ r ≡ misreads-among (T·Theory .meaning (now (theory .entry))) transition (now (terms .entry)) ⌝ }
 {
     for variable in &VARIABLES[..] {

@@ -33,10 +33,12 @@ const NO_QUANTIFIER: Quantifier = Quantifier {
     kind: Kind::ForAll,
     guard: 0,
 };
+
 const NO_STATE: State = State {
     mode: Mode::Skip,
     accepting: false,
 };
+
 const NO_TRANSITION: Transition = Transition {
     from: 0,
     pattern: 0,
@@ -112,7 +114,12 @@ impl Draft {
     {
         let number = self.table.patterns.len();
         let pattern = pattern_from(number, event, terms)?;
-        let row = add_row(&mut self.table.patterns, RowKind::Pattern, number, Some(pattern))?;
+        let row = add_row(
+            &mut self.table.patterns,
+            RowKind::Pattern,
+            number,
+            Some(pattern),
+        )?;
         Ok(row as u8)
     }
 

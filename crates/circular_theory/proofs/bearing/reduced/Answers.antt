@@ -14,5 +14,5 @@ returns c =
     let left = c .rem-euclid .result in
     let fits : SFits w64 left = search needs in
     let is : natAbs (toZ w64 (ofZ w64 left)) ≡ bearing (c .args .value) =
-        ap natAbs (toZ-ofZ w64 left fits) ∙ ap natAbs (c .rem-euclid .ensures .value) ∙ ap (λ (v : ℤ). natAbs (remEuclid v (pos 3600))) (toZ-ofZ w64 (c .args .value) (c .fits .value)) in
+    ap natAbs (toZ-ofZ w64 left fits) ∙ ap natAbs (c .rem-euclid .ensures .value) ∙ ap (λ (v : ℤ). natAbs (remEuclid v (pos 3600))) (toZ-ofZ w64 (c .args .value) (c .fits .value)) in
     record { value = is; meaning = reduced-from (c .args .value) _ is; around-zero = (refl, refl, refl, refl, refl, refl) }

@@ -1,7 +1,7 @@
 use mathlib.Core.Path.{_≡_}
 use Prim.Native.Nat.{_-_}
-use Rattle.monitor.specs.Distance.{acted-times}
-use Rattle.monitor.proofs.trial.after_legs.Given as given
+use Rattle.distance.specs.Distance.{acted-times}
+use Rattle.distance.proofs.trial.after_legs.Given as given
 
 -- the legs that are left bring the row to where all legs bring it
 abbrev pub Inv-loop-leg : given.InvT-loop-leg

@@ -7,7 +7,7 @@ use lib.IntN.{ℤ}
 use Rattle.std.specs.declared.option.Option.{Option}
 use Rattle.std.specs.declared.option.Option.the-variants.{Some, None}
 use Rattle.qea.specs.Meaning.{Meaning, acted}
-use Rattle.monitor.specs.Distance.{and-then, acted-times}
+use Rattle.distance.specs.Distance.{and-then, acted-times}
 
 module _ (m : Meaning) (action many i : ℕ) (row : List ℤ) (last : Option (List ℤ)) (left : acted-times m action (many - i) row ≡ last) where
   -- one time more

@@ -1,7 +1,7 @@
 use mathlib.Core.Path.{_∙_}
 use native.Mathlib.Omega.{arith}
-use Rattle.monitor.proofs.Times.{times-more, times-gone, times-done}
-use Rattle.monitor.proofs.trial.after_legs.Needs as need
+use Rattle.distance.proofs.Times.{times-more, times-gone, times-done}
+use Rattle.distance.proofs.trial.after_legs.Needs as need
 
 pub loop-leg-again : need.loop-leg-again
 loop-leg-again g c =

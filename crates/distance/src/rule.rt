@@ -7,7 +7,16 @@ ghost use Rattle.bounded.specs.Items.{items};
 ghost use Rattle.linear_theory.specs.Rows.{guard-numbers, action-numbers};
 ghost use Rattle.linear_theory.specs.declared.form.Relation.the-variants.{Less};
 ghost use Rattle.table.specs.Model.{automaton-of};
-ghost use Rattle.monitor.specs.Distance.{distance-rule, shortfall, lengthened};
+ghost use Rattle.distance.specs.Distance.{distance-rule, shortfall, lengthened};
+use linear_theory::LinearAction;
+use linear_theory::LinearActionDefault;
+use linear_theory::LinearActionRow;
+use linear_theory::LinearForm;
+use linear_theory::LinearGuard;
+use linear_theory::LinearGuardDefault;
+use linear_theory::LinearGuardRow;
+use linear_theory::LinearTheory;
+use linear_theory::Relation;
 use qea::Kind;
 use qea::Mode;
 use qea::Quantifier;
@@ -18,18 +27,10 @@ use qea::Transition;
 use table::Draft;
 use table::SealedTable;
 use theory::RowTheoryTheory;
-use linear_theory::LinearAction;
-use linear_theory::LinearActionDefault;
-use linear_theory::LinearActionRow;
-use linear_theory::LinearForm;
-use linear_theory::LinearGuard;
-use linear_theory::LinearGuardDefault;
-use linear_theory::LinearGuardRow;
-use linear_theory::LinearTheory;
-use linear_theory::Relation;
 
 // Events.
 const LEG: u8 = 1;
+
 const PANEL: u8 = 2;
 
 // The one quantified variable.
@@ -37,19 +38,26 @@ const ROUTE: u8 = 0;
 
 // Registers: the length of the latest leg, the sum of the legs, and the latest figure on the panel.
 const LENGTH: u8 = 0;
+
 const SUM: u8 = 1;
+
 const FIGURE: u8 = 2;
 
 // The same registers' places in a row of guards and actions, which has the four variables first.
-pub const LENGTH_PLACE: u8 = 4;
-pub const SUM_PLACE: u8 = 5;
-pub const FIGURE_PLACE: u8 = 6;
+const LENGTH_PLACE: u8 = 4;
+
+pub(crate) const SUM_PLACE: u8 = 5;
+
+const FIGURE_PLACE: u8 = 6;
 
 // States, and the guard and the action of the theory.
 const GOOD: u8 = 0;
+
 const FAILED: u8 = 1;
-pub const SHOWS_TOO_LITTLE: u8 = 1;
-pub const ADDS_LENGTH: u8 = 1;
+
+pub(crate) const SHOWS_TOO_LITTLE: u8 = 1;
+
+pub(crate) const ADDS_LENGTH: u8 = 1;
 
 // The theory of the rule. A length is in thousandths of a mile, and a figure in tenths.
 pub fn distance_theory() -> Result<LinearTheory, TableFault>

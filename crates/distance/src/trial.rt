@@ -3,7 +3,7 @@
 ghost use mathlib.Core.Path.{_≡_};
 ghost use lib.IntN.{pos};
 ghost use Rattle.qea.specs.Meaning.{holds};
-ghost use Rattle.monitor.specs.Distance.{trial-row, acted-times, sum-in};
+ghost use Rattle.distance.specs.Distance.{trial-row, acted-times, sum-in};
 use crate::rule::ADDS_LENGTH;
 use crate::rule::SHOWS_TOO_LITTLE;
 use crate::rule::SUM_PLACE;
@@ -19,7 +19,11 @@ fn trial_row(length: i64, sum: i64, figure: i64) -> [i64; PLACES]
 }
 
 // The row after so many legs, or none if the sum went out of range.
-fn after_legs<T: Theory>(rule: &SealedTable<T>, legs: u32, start: [i64; PLACES]) -> Option<[i64; PLACES]>
+fn after_legs<T: Theory>(
+    rule: &SealedTable<T>,
+    legs: u32,
+    start: [i64; PLACES],
+) -> Option<[i64; PLACES]>
     ensures { λ r. ⌜ r ≡ acted-times (T·Theory .meaning (now (rule .entry) .theory)) 1 legs start ⌝ }
 {
     let mut row = start;
