@@ -36,7 +36,7 @@ impl<T: Copy, const N: usize> BoundedList<T, N> {
     pub fn len(&self) -> usize
         ensures { λ r. ⌜ r ≡ length (items (now (self .entry))) ⌝ }
     {
-        self.len
+        self.as_slice().len()
     }
 
     pub fn as_slice(&self) -> &[T]

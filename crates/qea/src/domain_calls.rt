@@ -28,7 +28,7 @@ impl Domain {
     pub fn position(&self, value: i64) -> Option<usize>
         ensures { λ r. ⌜ r ≡ position-of (values-of (now (self .entry))) value ⌝ }
     {
-        let values = self.values.as_slice();
+        let values = self.values();
         for i in 0..values.len() {
             if values[i] == value {
                 return Some(i);

@@ -10,13 +10,13 @@ use Rattle.qea.proofs.domain.Domain.position.Needs as need
 
 pub returns-then-values-i : need.returns-then-values-i
 returns-then-values-i c =
-    let xs = c .as-slice-values .result .now in
+    let xs = c .values-values .result .now in
     let v = c .args .value in
     let here : getD xs (c .loop-i .i) (pos 0) ≡ v = search needs in
-    sym (position-here xs v (c .loop-i .i) (omega arith) (λ k h e. c .loop-i .inv k h (search (needs, e))) here) ∙ ap (λ (l : List ℤ). position-of l v) (c .as-slice-values .ensures)
+    sym (position-here xs v (c .loop-i .i) (omega arith) (λ k h e. c .loop-i .inv k h (search (needs, e))) here) ∙ ap (λ (l : List ℤ). position-of l v) (c .values-values .ensures)
 
 pub returns : need.returns
 returns c =
-    let xs = c .as-slice-values .result .now in
+    let xs = c .values-values .result .now in
     let v = c .args .value in
-    sym (position-nowhere xs v (λ k h e. c .loop-i .inv k (omega arith) (search (needs, e)))) ∙ ap (λ (l : List ℤ). position-of l v) (c .as-slice-values .ensures)
+    sym (position-nowhere xs v (λ k h e. c .loop-i .inv k (omega arith) (search (needs, e)))) ∙ ap (λ (l : List ℤ). position-of l v) (c .values-values .ensures)
