@@ -24,6 +24,8 @@ pub use configuration::ConfigurationList;
 pub use domain::Domain;
 pub use event::Event;
 pub use fault::Description;
+pub use fault::DescriptionDebug;
+pub use fault::DescriptionPartialEq;
 pub use fault::Layer;
 pub use fault::Place;
 pub use fault::ReadingFault;

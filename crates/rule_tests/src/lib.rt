@@ -146,12 +146,12 @@ mod tests {
     #[test]
     fn limits() -> Result<(), Fail> {
         let mut draft = Draft::new();
-        for row in 0..17 {
-            let due = if row < 16 { Ok(row as u8) } else { Err(described(5, RowKind::State, 16)) };
+        for row in 0..17u8 {
+            let due = if row < 16 { Ok(row) } else { Err(described(5, RowKind::State, 16)) };
             check_eq(told(draft.add_state(STATE)), due)?;
         }
-        for row in 0..5 {
-            let due = if row < 4 { Ok(row as u8) } else { Err(described(5, RowKind::Start, 4)) };
+        for row in 0..5u8 {
+            let due = if row < 4 { Ok(row) } else { Err(described(5, RowKind::Start, 4)) };
             check_eq(told(draft.add_start(1_000_000_000_000)), due)?;
         }
         let over = draft.add_start(1_000_000_000_001);
