@@ -1,6 +1,6 @@
 //! Circular theories, for bearings in tenths of a degree: a guard holds on an arc, and an action adds bearings.
 
-use theory::RowTheory;
+use row_theory::RowTheory;
 
 mod bearing;
 mod means;

@@ -9,8 +9,8 @@ use crate::rows::CircularAction;
 use crate::rows::CircularGuard;
 use qea::PLACES;
 use qea::REGISTERS;
-use theory::ActionRow;
-use theory::GuardRow;
+use row_theory::ActionRow;
+use row_theory::GuardRow;
 
 impl CircularGuard {
     // The guard, or none if a number is out of range.

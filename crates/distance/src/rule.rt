@@ -6,7 +6,7 @@ ghost use Rattle.std.specs.Vec.{made};
 ghost use Rattle.bounded.specs.Items.{items};
 ghost use Rattle.linear_theory.specs.Rows.{guard-numbers, action-numbers};
 ghost use Rattle.linear_theory.specs.declared.form.Relation.the-variants.{Less};
-ghost use Rattle.table.specs.Model.{automaton-of};
+ghost use Rattle.sealing.specs.Model.{automaton-of};
 ghost use Rattle.distance.specs.Distance.{distance-rule, shortfall, lengthened};
 use linear_theory::LinearAction;
 use linear_theory::LinearActionDefault;
@@ -24,9 +24,9 @@ use qea::State;
 use qea::TableFault;
 use qea::Term;
 use qea::Transition;
+use row_theory::RowTheoryTheory;
 use table::Draft;
 use table::SealedTable;
-use theory::RowTheoryTheory;
 
 // Events.
 const LEG: u8 = 1;

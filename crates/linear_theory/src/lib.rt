@@ -1,6 +1,6 @@
 //! Linear theories: a guard compares m × A + n × B + c with 0, and an action writes that sum.
 
-use theory::RowTheory;
+use row_theory::RowTheory;
 
 mod form;
 mod means;

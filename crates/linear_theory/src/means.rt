@@ -11,8 +11,8 @@ use crate::rows::LinearGuard;
 use crate::sums::value_of;
 use qea::PLACES;
 use qea::REGISTERS;
-use theory::ActionRow;
-use theory::GuardRow;
+use row_theory::ActionRow;
+use row_theory::GuardRow;
 
 // What unused slots of a theory hold.
 const ZERO_FORM: LinearForm = LinearForm {

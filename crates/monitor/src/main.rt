@@ -7,9 +7,9 @@ use distance::sum_after;
 use linear_theory::LinearActionRow;
 use linear_theory::LinearGuardRow;
 use linear_theory::LinearTheory;
+use row_theory::RowTheoryTheory;
 use std::error::AnyError;
 use table::SealedTable;
-use theory::RowTheoryTheory;
 
 mod step;
 

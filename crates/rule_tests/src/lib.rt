@@ -19,9 +19,9 @@ mod tests {
     use linear_theory::LinearGuardRow;
     use linear_theory::LinearTheory;
     use linear_theory::Relation;
+    use qea::Description;
     use qea::DescriptionDebug;
     use qea::DescriptionPartialEq;
-    use qea::Description;
     use qea::Kind;
     use qea::Layer;
     use qea::Mode;
@@ -32,9 +32,9 @@ mod tests {
     use qea::TableFault;
     use qea::Term;
     use qea::Transition;
+    use row_theory::RowTheoryTheory;
     use std::test::*;
     use table::Draft;
-    use theory::RowTheoryTheory;
     use theory::Theory;
 
     // Bearings at and around zero, and at the ends of 64 bits.
@@ -57,6 +57,7 @@ mod tests {
         }
         Ok(())
     }
+
     const FORM: LinearForm = LinearForm {
         m: 1,
         a: 0,
@@ -119,7 +120,9 @@ mod tests {
             check_eq(theory.action(1, &row), Some(turned))?;
         }
         check(CircularGuard::new(8, 0, 0).is_none())?;
-        check(CircularGuard::new(7, 3600, 0).is_none() && CircularGuard::new(7, 3599, 3599).is_some())
+        check(
+            CircularGuard::new(7, 3600, 0).is_none() && CircularGuard::new(7, 3599, 3599).is_some(),
+        )
     }
 
     fn described(number: u8, kind: RowKind, row: usize) -> Description {
@@ -147,19 +150,39 @@ mod tests {
     fn limits() -> Result<(), Fail> {
         let mut draft = Draft::new();
         for row in 0..17u8 {
-            let due = if row < 16 { Ok(row) } else { Err(described(5, RowKind::State, 16)) };
+            let due = if row < 16 {
+                Ok(row)
+            } else {
+                Err(described(5, RowKind::State, 16))
+            };
             check_eq(told(draft.add_state(STATE)), due)?;
         }
         for row in 0..5u8 {
-            let due = if row < 4 { Ok(row) } else { Err(described(5, RowKind::Start, 4)) };
+            let due = if row < 4 {
+                Ok(row)
+            } else {
+                Err(described(5, RowKind::Start, 4))
+            };
             check_eq(told(draft.add_start(1_000_000_000_000)), due)?;
         }
         let over = draft.add_start(1_000_000_000_001);
         check_eq(told(over), Err(described(2, RowKind::Start, 4)))?;
         let five = [Term::Blank; 5];
-        check_eq(told(draft.add_pattern(0, &five)), Err(described(5, RowKind::Pattern, 0)))?;
-        let bad = [Term::Blank, Term::Blank, Term::Blank, Term::Blank, Term::Register(4)];
-        check_eq(told(draft.add_pattern(0, &bad)), Err(described(2, RowKind::Pattern, 0)))?;
+        check_eq(
+            told(draft.add_pattern(0, &five)),
+            Err(described(5, RowKind::Pattern, 0)),
+        )?;
+        let bad = [
+            Term::Blank,
+            Term::Blank,
+            Term::Blank,
+            Term::Blank,
+            Term::Register(4),
+        ];
+        check_eq(
+            told(draft.add_pattern(0, &bad)),
+            Err(described(2, RowKind::Pattern, 0)),
+        )?;
         check_eq(told(draft.add_pattern(0, &five[0..4])), Ok(0))
     }
 
@@ -174,9 +197,21 @@ mod tests {
     // One guard that reads variable 1 and register 0, and one action that reads variable 0.
     fn two_rows() -> LinearTheory {
         let mut theory = LinearTheory::empty();
-        let both = LinearForm { m: 1, a: 1, n: 1, b: 4, c: 0 };
+        let both = LinearForm {
+            m: 1,
+            a: 1,
+            n: 1,
+            b: 4,
+            c: 0,
+        };
         let _ = theory.add_guard(LinearGuard::new(both, Relation::Less));
-        let first = LinearForm { m: 1, a: 0, n: 0, b: 1, c: 0 };
+        let first = LinearForm {
+            m: 1,
+            a: 0,
+            n: 0,
+            b: 1,
+            c: 0,
+        };
         let _ = theory.add_action(LinearAction::new(0, first));
         theory
     }
@@ -207,14 +242,35 @@ mod tests {
         let acting = Transition { action: 1, ..FREE };
         let cases = [
             (draft_of([0, 0], &both, FREE), Ok(())),
-            (draft_of([2, 0], &both, absent), Err(described(6, quantifier, 0))),
-            (draft_of([1, 0], &both, FREE), Err(described(7, quantifier, 0))),
-            (draft_of([0, 1], &both, FREE), Err(described(7, quantifier, 1))),
-            (draft_of([0, 0], &[Term::Variable(2)], absent), Err(described(6, RowKind::Pattern, 0))),
-            (draft_of([0, 0], &both, absent), Err(described(6, transition, 0))),
-            (draft_of([0, 0], &both[0..1], guarded), Err(described(7, transition, 0))),
+            (
+                draft_of([2, 0], &both, absent),
+                Err(described(6, quantifier, 0)),
+            ),
+            (
+                draft_of([1, 0], &both, FREE),
+                Err(described(7, quantifier, 0)),
+            ),
+            (
+                draft_of([0, 1], &both, FREE),
+                Err(described(7, quantifier, 1)),
+            ),
+            (
+                draft_of([0, 0], &[Term::Variable(2)], absent),
+                Err(described(6, RowKind::Pattern, 0)),
+            ),
+            (
+                draft_of([0, 0], &both, absent),
+                Err(described(6, transition, 0)),
+            ),
+            (
+                draft_of([0, 0], &both[0..1], guarded),
+                Err(described(7, transition, 0)),
+            ),
             (draft_of([0, 0], &both, guarded), Ok(())),
-            (draft_of([0, 0], &both[1..2], acting), Err(described(7, transition, 0))),
+            (
+                draft_of([0, 0], &both[1..2], acting),
+                Err(described(7, transition, 0)),
+            ),
         ];
         for (draft, due) in cases {
             let answer = match draft.can_seal(&theory) {

@@ -1,7 +1,1 @@
 pub mod PatternRows
-pub mod Failing
-pub mod Members
-pub mod Faultless
-pub mod Fitting
-pub mod Deciding
-pub mod FirstFaults

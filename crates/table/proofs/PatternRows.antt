@@ -17,7 +17,7 @@ use Rattle.qea.specs.Automaton.{Pattern}
 use Rattle.qea.specs.Faults.{in-row}
 use Rattle.qea.specs.Lists.{every}
 use Rattle.qea.specs.Rows.{row-answer, added}
-use Rattle.table.specs.Model.{pattern-of}
+use Rattle.sealing.specs.Model.{pattern-of}
 use Rattle.table.specs.Terms.{term-in-range, pattern-from}
 
 map-added : {X Y : Type 0} (f : X → Y) (answer : Result ℕ Description) (rows : List X) (x : X) → map f (added answer rows x) ≡ added answer (map f rows) (f x)

@@ -1,4 +1,2 @@
 pub mod Terms
-pub mod Model
-pub mod Sealing
-pub mod WellFormed
+pub mod RowCalls

@@ -10,10 +10,10 @@ ghost use Rattle.qea.specs.Lists.{every};
 ghost use Rattle.qea.specs.Rows.{row-answer, adding};
 ghost use Rattle.qea.specs.Values.{is-value};
 ghost use Rattle.qea.specs.declared.fault.RowKind.the-variants.{Quantifier as quantifiers, Start as starts, State as states, Pattern as patterns, Transition as transitions};
-ghost use Rattle.table.specs.Model.{automaton-of, empty-automaton, with-quantifier, with-start, with-state, with-pattern, with-transition};
+ghost use Rattle.sealing.specs.Model.{automaton-of};
+ghost use Rattle.table.specs.RowCalls.{empty-automaton, with-quantifier, with-start, with-state, with-pattern, with-transition};
 ghost use Rattle.table.specs.Terms.{term-in-range};
-use crate::table::Draft;
-use crate::table::Table;
+use crate::stages::Draft;
 use crate::terms::pattern_from;
 use bounded::BoundedList;
 use qea::Kind;
@@ -27,6 +27,7 @@ use qea::Term;
 use qea::Transition;
 use qea::add_row;
 use qea::is_value;
+use sealing::Table;
 
 // What unused slots hold.
 const NO_QUANTIFIER: Quantifier = Quantifier {

@@ -2,7 +2,7 @@
 
 ghost use mathlib.Core.Path.{_≡_};
 ghost use Rattle.qea.specs.Lists.{every};
-ghost use Rattle.table.specs.Model.{pattern-told};
+ghost use Rattle.table.specs.RowCalls.{pattern-told};
 ghost use Rattle.table.specs.Terms.{term-in-range, pattern-from};
 use bounded::BoundedList;
 use qea::MAX_QUANTIFIERS;

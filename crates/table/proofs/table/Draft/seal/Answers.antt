@@ -1,8 +1,0 @@
-use mathlib.Core.Path.{refl}
-use Rattle.table.specs.Model.{automaton-of}
-use Rattle.table.proofs.Deciding.{sealed-well}
-use Rattle.table.proofs.table.Draft.seal.Needs as need
-
-pub returns : need.returns
-returns g c =
-    record { table = refl; theory = refl; well-formed = sealed-well (automaton-of (c .args .self .table)) (g .T·Theory .meaning (c .args .theory)) (c .pre) }
