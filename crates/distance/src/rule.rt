@@ -4,10 +4,12 @@ ghost use mathlib.Core.List.{[], _∷_, map};
 ghost use mathlib.Core.Path.{_≡_};
 ghost use Rattle.std.specs.Vec.{made};
 ghost use Rattle.bounded.specs.Items.{items};
-ghost use Rattle.linear_theory.specs.Rows.{guard-numbers, action-numbers};
+ghost use Rattle.row_theory.specs.Rows.{row-meaning};
+ghost use Rattle.linear_theory.specs.Rows.{linear-guard, linear-action, guard-numbers, action-numbers};
 ghost use Rattle.linear_theory.specs.declared.form.Relation.the-variants.{Less};
 ghost use Rattle.sealing.specs.Model.{automaton-of};
 ghost use Rattle.distance.specs.Distance.{distance-rule, shortfall, lengthened};
+ghost use Rattle.distance.specs.Figures.{Figures};
 use linear_theory::LinearAction;
 use linear_theory::LinearActionDefault;
 use linear_theory::LinearActionRow;
@@ -61,6 +63,14 @@ pub(crate) const ADDS_LENGTH: u8 = 1;
 
 // The theory of the rule. A length is in thousandths of a mile, and a figure in tenths.
 pub fn distance_theory() -> Result<LinearTheory, TableFault>
+    ensures guards { λ r. ⌜ made r (λ t. map guard-numbers (items (t .guards)) ≡ (shortfall, Less) ∷ []) ⌝ }
+    ensures actions { λ r. ⌜ made r (λ t. map action-numbers (items (t .actions)) ≡ (1, lengthened) ∷ []) ⌝ }
+    ensures figures { λ r. ⌜ made r (λ t. Figures (row-meaning linear-guard linear-action t)) ⌝ }
+{
+    theory_rows()
+}
+
+fn theory_rows() -> Result<LinearTheory, TableFault>
     ensures guards { λ r. ⌜ made r (λ t. map guard-numbers (items (t .guards)) ≡ (shortfall, Less) ∷ []) ⌝ }
     ensures actions { λ r. ⌜ made r (λ t. map action-numbers (items (t .actions)) ≡ (1, lengthened) ∷ []) ⌝ }
 {

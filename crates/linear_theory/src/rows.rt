@@ -3,6 +3,7 @@
 ghost use mathlib.Core.Bool.{true};
 ghost use mathlib.Core.Path.{_≡_};
 ghost use Prim.Native.Nat.{_<_};
+ghost use Rattle.qea.specs.Limits.{registers};
 ghost use Rattle.linear_theory.specs.Forms.{form-in-range};
 use crate::form::LinearForm;
 use crate::form::Relation;
@@ -20,6 +21,6 @@ pub struct LinearGuard {
 pub struct LinearAction {
     pub(crate) register: u8,
     pub(crate) form: LinearForm,
-    ghost within: { register < 4 },
+    ghost within: { register < registers },
     ghost ranged: { form-in-range form ≡ true },
 }

@@ -1,18 +1,13 @@
 //! How a draft takes rows.
 
-ghost use mathlib.Core.Bool.{true, _&&_};
+ghost use mathlib.Core.Bool.{true};
 ghost use mathlib.Core.Path.{_≡_};
-ghost use lib.Dec.{leb, ltb};
-ghost use lib.ListN.{length};
 ghost use Rattle.qea.specs.Faults.{table-fault, told};
-ghost use Rattle.qea.specs.Limits.{max-quantifiers, registers, max-states, max-patterns, max-terms, max-transitions};
-ghost use Rattle.qea.specs.Lists.{every};
-ghost use Rattle.qea.specs.Rows.{row-answer, adding};
+ghost use Rattle.qea.specs.Limits.{max-quantifiers, registers, max-states, max-transitions};
+ghost use Rattle.qea.specs.Rows.{adding};
 ghost use Rattle.qea.specs.Values.{is-value};
-ghost use Rattle.qea.specs.declared.fault.RowKind.the-variants.{Quantifier as quantifiers, Start as starts, State as states, Pattern as patterns, Transition as transitions};
-ghost use Rattle.sealing.specs.Model.{automaton-of};
-ghost use Rattle.table.specs.RowCalls.{empty-automaton, with-quantifier, with-start, with-state, with-pattern, with-transition};
-ghost use Rattle.table.specs.Terms.{term-in-range};
+ghost use Rattle.qea.specs.declared.fault.RowKind.the-variants.{Quantifier as quantifiers, Start as starts, State as states, Transition as transitions};
+ghost use Rattle.table.specs.RowCalls.{drafted, adding-pattern, empty-automaton, with-quantifier, with-start, with-state, with-pattern, with-transition};
 use crate::stages::Draft;
 use crate::terms::pattern_from;
 use bounded::BoundedList;
@@ -51,7 +46,7 @@ const NO_TRANSITION: Transition = Transition {
 impl Draft {
     // No row of any kind.
     pub fn new() -> Draft
-        ensures { λ r. ⌜ automaton-of (r .table) ≡ empty-automaton ⌝ }
+        ensures { λ r. ⌜ drafted r ≡ empty-automaton ⌝ }
     {
         let pattern = Pattern {
             event: 0,
@@ -76,8 +71,8 @@ impl Draft {
     // Each call below adds one row and answers its number. A refused call keeps every row.
 
     pub fn add_quantifier(&mut self, quantifier: Quantifier) -> Result<u8, TableFault>
-        ensures answer { λ r. ⌜ told table-fault r ≡ adding quantifiers max-quantifiers true (automaton-of (now (self .entry) .table) .quantifiers) ⌝ }
-        ensures rows { λ r. ⌜ automaton-of (now (self .exit) .table) ≡ with-quantifier (told table-fault r) (automaton-of (now (self .entry) .table)) quantifier ⌝ }
+        ensures answer { λ r. ⌜ told table-fault r ≡ adding quantifiers max-quantifiers true (drafted (now (self .entry)) .quantifiers) ⌝ }
+        ensures rows { λ r. ⌜ drafted (now (self .exit)) ≡ with-quantifier (told table-fault r) (drafted (now (self .entry))) quantifier ⌝ }
     {
         let number = self.table.quantifiers.len();
         let row = add_row(
@@ -90,8 +85,8 @@ impl Draft {
     }
 
     pub fn add_start(&mut self, value: i64) -> Result<u8, TableFault>
-        ensures answer { λ r. ⌜ told table-fault r ≡ adding starts registers (is-value value) (automaton-of (now (self .entry) .table) .starts) ⌝ }
-        ensures rows { λ r. ⌜ automaton-of (now (self .exit) .table) ≡ with-start (told table-fault r) (automaton-of (now (self .entry) .table)) value ⌝ }
+        ensures answer { λ r. ⌜ told table-fault r ≡ adding starts registers (is-value value) (drafted (now (self .entry)) .starts) ⌝ }
+        ensures rows { λ r. ⌜ drafted (now (self .exit)) ≡ with-start (told table-fault r) (drafted (now (self .entry))) value ⌝ }
     {
         let number = self.table.starts.len();
         let start = if is_value(value) { Some(value) } else { None };
@@ -100,8 +95,8 @@ impl Draft {
     }
 
     pub fn add_state(&mut self, state: State) -> Result<u8, TableFault>
-        ensures answer { λ r. ⌜ told table-fault r ≡ adding states max-states true (automaton-of (now (self .entry) .table) .states) ⌝ }
-        ensures rows { λ r. ⌜ automaton-of (now (self .exit) .table) ≡ with-state (told table-fault r) (automaton-of (now (self .entry) .table)) state ⌝ }
+        ensures answer { λ r. ⌜ told table-fault r ≡ adding states max-states true (drafted (now (self .entry)) .states) ⌝ }
+        ensures rows { λ r. ⌜ drafted (now (self .exit)) ≡ with-state (told table-fault r) (drafted (now (self .entry))) state ⌝ }
     {
         let number = self.table.states.len();
         let row = add_row(&mut self.table.states, RowKind::State, number, Some(state))?;
@@ -110,8 +105,8 @@ impl Draft {
 
     // A fifth term is one too many, as a row without room is.
     pub fn add_pattern(&mut self, event: u8, terms: &[Term]) -> Result<u8, TableFault>
-        ensures answer { λ r. ⌜ told table-fault r ≡ row-answer patterns (length (automaton-of (now (self .entry) .table) .patterns)) (every term-in-range (now (terms .entry))) (leb (length (now (terms .entry))) max-terms && ltb (length (automaton-of (now (self .entry) .table) .patterns)) max-patterns) ⌝ }
-        ensures rows { λ r. ⌜ automaton-of (now (self .exit) .table) ≡ with-pattern (told table-fault r) (automaton-of (now (self .entry) .table)) event (now (terms .entry)) ⌝ }
+        ensures answer { λ r. ⌜ told table-fault r ≡ adding-pattern (drafted (now (self .entry))) (now (terms .entry)) ⌝ }
+        ensures rows { λ r. ⌜ drafted (now (self .exit)) ≡ with-pattern (told table-fault r) (drafted (now (self .entry))) event (now (terms .entry)) ⌝ }
     {
         let number = self.table.patterns.len();
         let pattern = pattern_from(number, event, terms)?;
@@ -125,8 +120,8 @@ impl Draft {
     }
 
     pub fn add_transition(&mut self, transition: Transition) -> Result<u8, TableFault>
-        ensures answer { λ r. ⌜ told table-fault r ≡ adding transitions max-transitions true (automaton-of (now (self .entry) .table) .transitions) ⌝ }
-        ensures rows { λ r. ⌜ automaton-of (now (self .exit) .table) ≡ with-transition (told table-fault r) (automaton-of (now (self .entry) .table)) transition ⌝ }
+        ensures answer { λ r. ⌜ told table-fault r ≡ adding transitions max-transitions true (drafted (now (self .entry)) .transitions) ⌝ }
+        ensures rows { λ r. ⌜ drafted (now (self .exit)) ≡ with-transition (told table-fault r) (drafted (now (self .entry))) transition ⌝ }
     {
         let number = self.table.transitions.len();
         let row = add_row(

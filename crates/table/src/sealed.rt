@@ -9,6 +9,7 @@ ghost use Rattle.qea.specs.Meaning.{holds, acted};
 ghost use Rattle.sealing.specs.Model.{automaton-of};
 ghost use Rattle.sealing.specs.Sealing.{sealing};
 ghost use Rattle.sealing.specs.WellFormed.{Well-formed};
+ghost use Rattle.table.specs.RowCalls.{drafted};
 use crate::stages::Draft;
 use crate::stages::SealedTable;
 use qea::PLACES;
@@ -22,15 +23,15 @@ use theory::guard_holds;
 impl Draft {
     // Whether the draft may be sealed with this theory. Nothing moves.
     pub fn can_seal<T: Theory>(&self, theory: &T) -> Result<(), TableFault>
-        ensures answer { λ r. ⌜ told table-fault r ≡ sealing (automaton-of (now (self .entry) .table)) (T·Theory .meaning (now (theory .entry))) ⌝ }
-        ensures decides { λ r. ⌜ Decides (isOk r) (Well-formed (automaton-of (now (self .entry) .table)) (T·Theory .meaning (now (theory .entry)))) ⌝ }
+        ensures answer { λ r. ⌜ told table-fault r ≡ sealing (drafted (now (self .entry))) (T·Theory .meaning (now (theory .entry))) ⌝ }
+        ensures decides { λ r. ⌜ Decides (isOk r) (Well-formed (drafted (now (self .entry))) (T·Theory .meaning (now (theory .entry)))) ⌝ }
     {
         check_table(&self.table, theory)
     }
 
     // Uses up the draft and the theory. It stands on the yes of `can_seal` for the same two.
     pub fn seal<T: Theory>(self, theory: T) -> SealedTable<T>
-        requires { ⌜ sealing (automaton-of (self .table)) (T·Theory .meaning theory) ≡ Ok tt ⌝ }
+        requires { ⌜ sealing (drafted self) (T·Theory .meaning theory) ≡ Ok tt ⌝ }
         ensures table { λ r. ⌜ r .table ≡ self .table ⌝ }
         ensures theory { λ r. ⌜ r .theory ≡ theory ⌝ }
         ensures well_formed { λ r. ⌜ Well-formed (automaton-of (r .table)) (T·Theory .meaning (r .theory)) ⌝ }
