@@ -235,51 +235,36 @@ mod tests {
         let theory = two_rows();
         let quantifier = RowKind::Quantifier;
         let transition = RowKind::Transition;
-        let own = Term::Variable(0);
-        let both = [own, Term::Variable(1)];
+        let both = [Term::Variable(0), Term::Variable(1)];
+        let first = [Term::Variable(0), Term::Blank];
+        let second = [Term::Variable(1), Term::Blank];
+        let stray = [Term::Variable(2), Term::Blank];
         let absent = Transition { to: 1, ..FREE };
         let guarded = Transition { guard: 1, ..FREE };
         let acting = Transition { action: 1, ..FREE };
         let cases = [
-            (draft_of([0, 0], &both, FREE), Ok(())),
+            ([0, 0], both, FREE, None),
+            ([2, 0], stray, absent, Some(described(6, quantifier, 0))),
+            ([1, 0], stray, absent, Some(described(7, quantifier, 0))),
+            ([0, 1], stray, absent, Some(described(7, quantifier, 1))),
             (
-                draft_of([2, 0], &both, absent),
-                Err(described(6, quantifier, 0)),
+                [0, 0],
+                stray,
+                absent,
+                Some(described(6, RowKind::Pattern, 0)),
             ),
-            (
-                draft_of([1, 0], &both, FREE),
-                Err(described(7, quantifier, 0)),
-            ),
-            (
-                draft_of([0, 1], &both, FREE),
-                Err(described(7, quantifier, 1)),
-            ),
-            (
-                draft_of([0, 0], &[Term::Variable(2)], absent),
-                Err(described(6, RowKind::Pattern, 0)),
-            ),
-            (
-                draft_of([0, 0], &both, absent),
-                Err(described(6, transition, 0)),
-            ),
-            (
-                draft_of([0, 0], &both[0..1], guarded),
-                Err(described(7, transition, 0)),
-            ),
-            (draft_of([0, 0], &both, guarded), Ok(())),
-            (
-                draft_of([0, 0], &both[1..2], acting),
-                Err(described(7, transition, 0)),
-            ),
+            ([0, 0], both, absent, Some(described(6, transition, 0))),
+            ([0, 0], first, guarded, Some(described(7, transition, 0))),
+            ([0, 0], second, guarded, None),
+            ([0, 0], second, acting, Some(described(7, transition, 0))),
         ];
-        for (draft, due) in cases {
-            let answer = match draft.can_seal(&theory) {
-                Ok(()) => Ok(()),
-                Err(fault) => Err(fault.describe()),
+        for (guards, terms, transition, due) in cases {
+            let told = match draft_of(guards, &terms, transition).can_seal(&theory) {
+                Ok(()) => None,
+                Err(fault) => Some(fault.describe()),
             };
-            check_eq(answer, due)?;
+            check_eq(told, due)?;
         }
-        let empty = Draft::new().can_seal(&theory);
-        check(empty.is_err())
+        check(Draft::new().can_seal(&theory).is_err())
     }
 }
