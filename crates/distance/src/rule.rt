@@ -1,7 +1,9 @@
 //! The distance-to-go rule, built by calls.
 
 ghost use mathlib.Core.List.{[], _∷_, map};
+ghost use mathlib.Core.Bool.{true};
 ghost use mathlib.Core.Path.{_≡_};
+ghost use Rattle.std.specs.Results.{isOk};
 ghost use Rattle.std.specs.Vec.{made};
 ghost use Rattle.bounded.specs.Items.{items};
 ghost use Rattle.row_theory.specs.Rows.{row-meaning};
@@ -63,6 +65,7 @@ pub(crate) const ADDS_LENGTH: u8 = 1;
 
 // The theory of the rule. A length is in thousandths of a mile, and a figure in tenths.
 pub fn distance_theory() -> Result<LinearTheory, TableFault>
+    ensures granted { λ r. ⌜ isOk r ≡ true ⌝ }
     ensures guards { λ r. ⌜ made r (λ t. map guard-numbers (items (t .guards)) ≡ (shortfall, Less) ∷ []) ⌝ }
     ensures actions { λ r. ⌜ made r (λ t. map action-numbers (items (t .actions)) ≡ (1, lengthened) ∷ []) ⌝ }
     ensures figures { λ r. ⌜ made r (λ t. Figures (row-meaning linear-guard linear-action t)) ⌝ }
@@ -71,6 +74,7 @@ pub fn distance_theory() -> Result<LinearTheory, TableFault>
 }
 
 fn theory_rows() -> Result<LinearTheory, TableFault>
+    ensures granted { λ r. ⌜ isOk r ≡ true ⌝ }
     ensures guards { λ r. ⌜ made r (λ t. map guard-numbers (items (t .guards)) ≡ (shortfall, Less) ∷ []) ⌝ }
     ensures actions { λ r. ⌜ made r (λ t. map action-numbers (items (t .actions)) ≡ (1, lengthened) ∷ []) ⌝ }
 {
@@ -96,7 +100,8 @@ fn theory_rows() -> Result<LinearTheory, TableFault>
 
 // The rows of the rule: state 0 is good, and state 1, which is not final, has failed.
 pub fn distance_draft() -> Result<Draft, TableFault>
-    ensures { λ r. ⌜ made r (λ d. automaton-of (d .table) ≡ distance-rule) ⌝ }
+    ensures granted { λ r. ⌜ isOk r ≡ true ⌝ }
+    ensures rows { λ r. ⌜ made r (λ d. automaton-of (d .table) ≡ distance-rule) ⌝ }
 {
     let mut draft = Draft::new();
     draft.add_quantifier(Quantifier {
