@@ -1,5 +1,7 @@
 //! Circular theories, for bearings in tenths of a degree: a guard holds on an arc, and an action adds bearings.
 
+#![tactic(auto)]
+
 use row_theory::RowTheory;
 
 mod bearing;

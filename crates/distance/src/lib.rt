@@ -1,5 +1,7 @@
 //! The distance-to-go rule, built by calls, and a trial of it.
 
+#![tactic(auto)]
+
 mod rule;
 mod trial;
 

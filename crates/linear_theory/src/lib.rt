@@ -1,5 +1,7 @@
 //! Linear theories: a guard compares m × A + n × B + c with 0, and an action writes that sum.
 
+#![tactic(auto)]
+
 use row_theory::RowTheory;
 
 mod form;

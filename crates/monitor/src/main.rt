@@ -1,5 +1,7 @@
 //! Builds the distance-to-go rule by calls, seals it, and tries it on the legs and panels of standard input.
 
+#![tactic(auto)]
+
 use crate::step::Step;
 use distance::{sealed_rule, shows_too_little, sum_after};
 use linear_theory::LinearTheory;

@@ -7,7 +7,7 @@ use Rattle.qea.specs.Meaning.{Meaning}
 use Rattle.qea.specs.Automaton.{Automaton}
 use Rattle.qea.specs.Verdicts.{count}
 use Rattle.qea.specs.Refusals.{refusal, GrantedAfter, Granted}
-use Rattle.qea.specs.Runs.{Call, offer, ask_verdict, begin_again, Reply, refused, is_beginning, since_beginning, offered_by, added_unless, granted_of, events, offer_reply, reply, answers}
+use Rattle.qea.specs.Runs.{Call, offer, ask_verdict, begin_again, Reply, is_beginning, since_beginning, offered_by, added_unless, granted_of, events, offer_reply, reply, answers}
 use Rattle.qea.specs.Laws.{AlwaysGranted, after_call, CallsInTurn, NoTrace}
 use Rattle.qea.proofs.Congruences.{folded_append, gathered_append}
 

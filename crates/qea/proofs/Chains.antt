@@ -4,7 +4,7 @@ use Rattle.std.specs.List.{slice_get}
 use Rattle.std.proofs.lemmas.Bool.{eqb-true, true≢false, and_parts}
 use Rattle.qea.specs.declared.automaton.Transition.{Transition}
 use Rattle.qea.specs.declared.configuration.Configuration.{Configuration}
-use Rattle.qea.specs.Lists.{any, gathered, present, In, missing}
+use Rattle.qea.specs.Lists.{any, gathered, In, missing}
 use Rattle.qea.specs.Values.{same}
 use Rattle.qea.specs.Events.{Event}
 use Rattle.qea.specs.Meaning.{Meaning}
@@ -21,7 +21,7 @@ use Rattle.qea.proofs.Members.{none_not_some, some_same, in_present, of_present,
 use Rattle.qea.proofs.Firsts.{firsts_have, of_firsts}
 use Rattle.qea.proofs.Growth.{binding_grows}
 use Rattle.qea.proofs.Moving.{moved}
-use Rattle.qea.proofs.Granting.{any_none, InRange, clear}
+use Rattle.qea.proofs.Granting.{InRange, clear}
 
 -- each configuration of the new list comes from one of the old list, by a transition or by none
 

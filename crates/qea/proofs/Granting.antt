@@ -1,10 +1,10 @@
 -- What it tells that an event is granted: nothing of 9 to 13 applies.
-use Rattle.std.proofs.Common.{◌≡◌, ℕ, Bool, true, false, cond, ◌||◌, List, [], ◌∷◌, ◌++◌, Some, None, Option, sym, refl, ap, ◌∙◌, inl, inr}
+use Rattle.std.proofs.Common.{◌≡◌, ℕ, Bool, true, false, ◌||◌, List, [], ◌∷◌, ◌++◌, Some, None, Option, sym, refl, ap, ◌∙◌, inl, inr}
 use Rattle.std.specs.List.{slice_get}
 use Rattle.std.proofs.lemmas.Bool.{both_ways}
 use Rattle.qea.specs.declared.configuration.Configuration.{Configuration}
 use Rattle.qea.specs.declared.fault.Description.{Description}
-use Rattle.qea.specs.Lists.{any, first_from, first_some, or_else, In, gathered, missing}
+use Rattle.qea.specs.Lists.{any, first_some, or_else, In, gathered, missing}
 use Rattle.qea.specs.Events.{Event, bad_event_at}
 use Rattle.qea.specs.Meaning.{Meaning}
 use Rattle.qea.specs.Automaton.{Automaton}
@@ -12,7 +12,7 @@ use Rattle.qea.specs.Matching.{sights}
 use Rattle.qea.specs.Domains.{domains}
 use Rattle.qea.specs.Bindings.{Binding, BindingOf, bindings}
 use Rattle.qea.specs.Steps.{tries, outcomes, configurations}
-use Rattle.qea.specs.Refusals.{overfull_at, store_full, out_of_range_at, list_full, at_zero, refused_at, refusal, GrantedAfter}
+use Rattle.qea.specs.Refusals.{overfull_at, store_full, out_of_range_at, list_full, at_zero, refused_at, refusal}
 use Rattle.qea.proofs.Members.{none_not_some, any_at, not_true_false}
 use Rattle.qea.proofs.Searching.{any_missed}
 use Rattle.qea.proofs.Listing.{in_bindings}

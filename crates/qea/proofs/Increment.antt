@@ -1,10 +1,9 @@
 -- One event more, from the domains and the map alone, comes to what all events define.
-use Rattle.std.proofs.Common.{◌≡◌, ℕ, Bool, true, false, cond, ◌&&◌, ◌||◌, List, [], ◌∷◌, ◌++◌, length, ℤ, Some, None, filter, Option, sym, refl, ap, ◌∙◌, ap₂, inl, append_assoc, append-nil, arith}
+use Rattle.std.proofs.Common.{◌≡◌, ℕ, Bool, true, cond, ◌&&◌, ◌||◌, List, [], ◌∷◌, ◌++◌, length, ℤ, Some, None, filter, Option, sym, refl, ap, ◌∙◌, ap₂, append_assoc, append-nil, arith}
 use Rattle.qea.specs.declared.automaton.Kind.{Kind}
 use Rattle.qea.specs.declared.automaton.Kind.TheVariants.{ForAll, Exists}
 use Rattle.qea.specs.declared.automaton.Quantifier.{Quantifier}
 use Rattle.qea.specs.declared.configuration.Configuration.{Configuration}
-use Rattle.qea.specs.declared.fault.Description.{Description}
 use Rattle.qea.specs.Lists.{every, any, first_some, In, gathered}
 use Rattle.qea.specs.Events.{Event, bad_event_at}
 use Rattle.qea.specs.Meaning.{Meaning}
@@ -14,12 +13,12 @@ use Rattle.qea.specs.Domains.{domains}
 use Rattle.qea.specs.Bindings.{Binding, BindingOf, TotalOf, bindings, total_bindings, without_new}
 use Rattle.qea.specs.Steps.{configurations}
 use Rattle.qea.specs.WellFormed.{WellFormed}
-use Rattle.qea.specs.Verdicts.{accepts, accepting, passes, quantified, judged}
-use Rattle.qea.specs.Endings.{lost_binding, won_binding, all_are, Verdict, verdict, passing_totals}
+use Rattle.qea.specs.Verdicts.{accepts, passes, quantified, judged}
+use Rattle.qea.specs.Endings.{lost_binding, won_binding, all_are}
 use Rattle.qea.specs.Refusals.{overfull_at, store_full, out_of_range_at, list_full, at_zero, refused_at, refusal}
-use Rattle.qea.specs.Stored.{Held, key, Keeps, Holds}
-use Rattle.qea.specs.Incremental.{grown_by, next_list, next_lists, list_or_empty, lists_in, NextHeld, refusal_grown, refusal_from, verdict_from}
-use Rattle.qea.specs.Laws.{BeginsAtStart, domains_or_position, Incremental, OneEventMore}
+use Rattle.qea.specs.Stored.{Held, Holds}
+use Rattle.qea.specs.Incremental.{next_list, next_lists, list_or_empty, lists_in, NextHeld, refusal_grown, refusal_from, verdict_from}
+use Rattle.qea.specs.Laws.{BeginsAtStart, domains_or_position, OneEventMore}
 use Rattle.qea.proofs.Members.{of_kept_by}
 use Rattle.qea.proofs.Congruences.{every_alike, any_alike, kept_by_alike, first_some_alike}
 use Rattle.qea.proofs.Growth.{length_domains, total_binding, binding_long}

@@ -6,7 +6,7 @@ use Rattle.qea.specs.declared.automaton.Kind.{Kind}
 use Rattle.qea.specs.declared.automaton.Kind.TheVariants.{ForAll, Exists}
 use Rattle.qea.specs.declared.automaton.Quantifier.{Quantifier}
 use Rattle.qea.specs.declared.configuration.Configuration.{Configuration}
-use Rattle.qea.specs.Lists.{every, any, In}
+use Rattle.qea.specs.Lists.{In}
 use Rattle.qea.specs.Events.{Event}
 use Rattle.qea.specs.Meaning.{Meaning, guard_reads_at}
 use Rattle.qea.specs.Automaton.{Automaton}

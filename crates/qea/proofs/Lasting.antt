@@ -1,14 +1,9 @@
 -- What is for good stays so over every longer granted list, and so does the verdict.
-use Rattle.std.proofs.Common.{◌≡◌, ℕ, true, false, List, [], ◌++◌, sym, ap, ◌∙◌, inl, inr, ⊎_elim, append-nil}
-use Rattle.qea.specs.Events.{Event}
-use Rattle.qea.specs.Meaning.{Meaning}
-use Rattle.qea.specs.Automaton.{Automaton}
+use Rattle.std.proofs.Common.{◌≡◌, true, [], ◌++◌, sym, ap, ◌∙◌, inl, inr, ⊎_elim, append-nil}
 use Rattle.qea.specs.Domains.{domains}
 use Rattle.qea.specs.Steps.{configurations}
-use Rattle.qea.specs.WellFormed.{WellFormed}
 use Rattle.qea.specs.Verdicts.{accepting, accepted}
-use Rattle.qea.specs.Endings.{PassingTotal, RejectsForGood, AcceptsForGood, verdict}
-use Rattle.qea.specs.Refusals.{GrantedAfter}
+use Rattle.qea.specs.Endings.{RejectsForGood, AcceptsForGood, verdict}
 use Rattle.qea.specs.Laws.{RejectsLasts, AcceptsLasts, ForGoodLasts}
 use Rattle.qea.proofs.Growth.{total_grows, total_binding}
 use Rattle.qea.proofs.Chains.{lost_ever, lost_rejects, won_ever, won_accepts}

@@ -2,7 +2,6 @@
 use Rattle.std.proofs.Common.{◌≡◌, Bool, true, false, cond, List, [], ◌∷◌, ◌++◌, length, ℤ, Some, None, fold, Option, sym, refl, ap, ◌∙◌, subst, ap₂, append-nil, arith}
 use Rattle.std.proofs.lemmas.List.Elements.{filter-append}
 use Rattle.std.proofs.lemmas.List.Sums.{fold_push}
-use Rattle.qea.specs.declared.configuration.Configuration.{Configuration}
 use Rattle.qea.specs.Lists.{any, In}
 use Rattle.qea.specs.Values.{same}
 use Rattle.qea.specs.Events.{Event}
@@ -13,7 +12,7 @@ use Rattle.qea.specs.Bindings.{Binding, EntryOf, BindingOf, known, without_new}
 use Rattle.qea.specs.Slices.{touched, slice}
 use Rattle.qea.specs.Steps.{start, step, configurations}
 use Rattle.qea.specs.Incremental.{next_list}
-use Rattle.qea.specs.Laws.{Moves, MovesInSlice, GoesOnFromEarlier, EarlierKeepsOwn}
+use Rattle.qea.specs.Laws.{MovesInSlice, GoesOnFromEarlier, EarlierKeepsOwn}
 use Rattle.qea.proofs.Sameness.{same_is, same_self}
 use Rattle.qea.proofs.Members.{any_at, of_any}
 use Rattle.qea.proofs.Growth.{length_domains, binding_long}

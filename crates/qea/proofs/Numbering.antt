@@ -8,9 +8,9 @@ use Rattle.qea.specs.Lists.{In, Distinct, first_from, gathered}
 use Rattle.qea.specs.Values.{same}
 use Rattle.qea.specs.Events.{Event}
 use Rattle.qea.specs.Automaton.{Automaton}
-use Rattle.qea.specs.Domains.{position_of, domain, domains}
+use Rattle.qea.specs.Domains.{domain, domains}
 use Rattle.qea.specs.Bindings.{Binding, EntryOf, BindingOf, entries, bindings, product, counted, digit, number, entry_at, binding_at}
-use Rattle.qea.specs.Laws.{Numbering, BindingsNumbered, BindingsListed}
+use Rattle.qea.specs.Laws.{BindingsNumbered, BindingsListed}
 use Rattle.qea.proofs.Sameness.{same_is, same_self}
 use Rattle.qea.proofs.Members.{not_true_false, of_map}
 use Rattle.qea.proofs.Aparts.{apart_head, apart_tail}

@@ -1,10 +1,10 @@
 -- The number of a refusal is that of the first condition that applies, and what is granted keeps the limits.
-use Rattle.std.proofs.Common.{◌≡◌, ℕ, zero, suc, ◌+◌, ◌*◌, ◌≤◌, Bool, true, false, cond, ◌||◌, List, [], ◌∷◌, ◌++◌, map, length, ℤ, is_some, Some, None, Option, sym, refl, ap, ◌∙◌, subst, ap₂, append_assoc, append-nil, arith}
+use Rattle.std.proofs.Common.{◌≡◌, ℕ, zero, suc, ◌+◌, ◌≤◌, Bool, true, false, cond, ◌||◌, List, [], ◌∷◌, ◌++◌, map, length, ℤ, is_some, Some, None, Option, sym, refl, ap, ◌∙◌, subst, ap₂, append_assoc, append-nil, arith}
 use Rattle.std.specs.List.{range_with_len, slice_get}
 use Rattle.std.proofs.lemmas.Bool.{ltb-false, le-ltb}
 use Rattle.qea.specs.declared.fault.Description.{Description}
 use Rattle.qea.specs.Limits.{max_domain, max_configurations}
-use Rattle.qea.specs.Lists.{any, first_from, or_else, first_some, In, gathered, missing}
+use Rattle.qea.specs.Lists.{any, first_from, or_else, first_some, gathered, missing}
 use Rattle.qea.specs.Events.{Event, bad_event_at}
 use Rattle.qea.specs.Meaning.{Meaning}
 use Rattle.qea.specs.Automaton.{Automaton}
@@ -13,8 +13,8 @@ use Rattle.qea.specs.Domains.{domain, domains}
 use Rattle.qea.specs.Bindings.{bindings, product}
 use Rattle.qea.specs.Steps.{tries, outcomes, configurations}
 use Rattle.qea.specs.WellFormed.{WellFormed}
-use Rattle.qea.specs.Refusals.{overfull_at, store_full, out_of_range_at, list_full, at_zero, refused_at, refusal, GrantedAfter}
-use Rattle.qea.specs.Laws.{first_condition, number_of, RefusalConditions, Bounded, GrantedBounded}
+use Rattle.qea.specs.Refusals.{overfull_at, store_full, out_of_range_at, list_full, at_zero, refused_at, GrantedAfter}
+use Rattle.qea.specs.Laws.{number_of, RefusalConditions, Bounded, GrantedBounded}
 use Rattle.qea.proofs.Members.{of_map, any_false}
 use Rattle.qea.proofs.Congruences.{any_alike}
 use Rattle.qea.proofs.Granting.{any_none, any_gathered, Clear, clear}

@@ -1,5 +1,5 @@
 -- Domains grown sight by sight, and where the first finds its domain full.
-use Rattle.std.proofs.Common.{◌≡◌, ℕ, zero, suc, ◌+◌, ◌<◌, ◌≤◌, Bool, true, false, cond, eqb, ltb, ◌⊎◌, List, [], ◌∷◌, ◌++◌, map, length, get_or, set, ℤ, is_some, Some, None, Ok, Err, fold, Option, Result, sym, refl, ap, ◌∙◌, subst, ap₂, inl, inr, ⊎_elim, append_assoc, append-nil, arith, length-append, length-set, get_or-set_other, get_or-set_same}
+use Rattle.std.proofs.Common.{◌≡◌, ℕ, zero, suc, ◌+◌, ◌<◌, ◌≤◌, Bool, true, false, cond, ltb, List, [], ◌∷◌, ◌++◌, map, length, get_or, set, ℤ, is_some, Some, None, Ok, fold, sym, refl, ap, ◌∙◌, subst, inl, inr, ⊎_elim, append_assoc, append-nil, arith, length-append, length-set, get_or-set_other, get_or-set_same}
 use Rattle.std.specs.List.{range_with_len}
 use Rattle.std.proofs.lemmas.List.FromFn.{length-map-range_with_len, get_or-map-range_with_len, fill_by_all}
 use Rattle.std.proofs.lemmas.Bool.{eq-eqb, ne_eqb, lt-ltb, ltb-true, cases_eq}
@@ -12,7 +12,7 @@ use Rattle.qea.specs.Events.{Event}
 use Rattle.qea.specs.Meaning.{Meaning}
 use Rattle.qea.specs.Automaton.{Pattern, Automaton}
 use Rattle.qea.specs.Matching.{meetings, met, matches, Sight, sight_at, sights_from, sights_through, sights}
-use Rattle.qea.specs.Domains.{met_by, domain_of, domains}
+use Rattle.qea.specs.Domains.{domain_of, domains}
 use Rattle.qea.specs.WellFormed.{WellFormed}
 use Rattle.qea.specs.Refusals.{overfull_at}
 use Rattle.qea.specs.Incremental.{if_grown, grown_by}

@@ -1,5 +1,5 @@
 -- The domain of a variable: the values that it has met, in order of first sight.
-use Rattle.std.specs.Prelude.{◌≡◌, ℕ, ◌<◌, cond, List, map, length, ℤ, pos, Some, None, filter, Option, ◌≢◌, nat_eq, nat_lt, slice_index_or}
+use Rattle.std.specs.Prelude.{ℕ, ◌<◌, cond, List, map, length, ℤ, pos, Some, None, filter, Option, ◌≢◌, nat_eq, nat_lt, slice_index_or}
 use Rattle.std.specs.List.{range_with_len}
 use Rattle.qea.specs.Limits.{max_domain}
 use Rattle.qea.specs.Lists.{first_from, joined, gathered, firsts}

@@ -1,6 +1,6 @@
 -- One event more, from the domains and the map alone: what code can follow, which keeps no history.
 -- The law `OneEventMore` (Laws.antt) says that it comes to what the events define.
-use Rattle.std.specs.Prelude.{ℕ, Bool, cond, ◌&&◌, ◌||◌, List, [], ◌∷◌, ◌++◌, length, ℤ, Some, None, Ok, Err, filter, Option, Result, slice_index_or, slice_set}
+use Rattle.std.specs.Prelude.{ℕ, Bool, cond, ◌&&◌, ◌||◌, List, [], ◌∷◌, length, ℤ, Some, None, Ok, Err, filter, Option, Result, slice_index_or, slice_set}
 use Rattle.qea.specs.declared.automaton.Kind.TheVariants.{ForAll, Exists}
 use Rattle.qea.specs.declared.configuration.Configuration.{Configuration}
 use Rattle.qea.specs.declared.fault.Description.{Description}

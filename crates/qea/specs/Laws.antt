@@ -1,7 +1,6 @@
 -- The laws of the semantics, on which runs rest. Each is the contract of a function in src/laws.rt.
-use Rattle.std.specs.Prelude.{◌≡◌, ℕ, ◌<◌, ◌≤◌, Bool, true, false, cond, ◌⊎◌, List, [], ◌∷◌, ◌++◌, map, length, ℤ, is_some, Some, None, Ok, Err, Decides, Option, Result, nat_lt}
+use Rattle.std.specs.Prelude.{◌≡◌, ℕ, ◌<◌, ◌≤◌, true, false, cond, ◌⊎◌, List, [], ◌∷◌, ◌++◌, map, length, ℤ, is_some, Some, None, Ok, Err, Decides, Option, Result, nat_lt}
 use Rattle.std.specs.List.{range_with_len}
-use Rattle.qea.specs.declared.configuration.Configuration.{Configuration}
 use Rattle.qea.specs.declared.fault.Description.{Description}
 use Rattle.qea.specs.Limits.{max_domain, max_configurations}
 use Rattle.qea.specs.Lists.{any, In, Distinct, gathered, missing}
@@ -15,10 +14,10 @@ use Rattle.qea.specs.Slices.{touched, slice}
 use Rattle.qea.specs.Steps.{start, step, outcomes, configurations}
 use Rattle.qea.specs.WellFormed.{WellFormed}
 use Rattle.qea.specs.Verdicts.{accepted, Accepted}
-use Rattle.qea.specs.Endings.{Lost, Won, LostBinding, WonBinding, lost, won, RejectsForGood, AcceptsForGood, Verdict, verdict}
+use Rattle.qea.specs.Endings.{Lost, Won, LostBinding, WonBinding, lost, won, RejectsForGood, AcceptsForGood, verdict}
 use Rattle.qea.specs.Refusals.{overfull_at, store_full, list_full, refusal, Granted, GrantedAfter}
 use Rattle.qea.specs.Stored.{Held, Holds}
-use Rattle.qea.specs.Runs.{Call, offer, ask_verdict, begin_again, Reply, refused, added_unless, granted_of, events, answers}
+use Rattle.qea.specs.Runs.{Call, offer, ask_verdict, begin_again, refused, added_unless, granted_of, events, answers}
 use Rattle.qea.specs.Incremental.{grown_by, next_list, lists_in, NextHeld, refusal_from, verdict_from}
 
 -- Slices

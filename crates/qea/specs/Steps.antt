@@ -9,7 +9,7 @@ use Rattle.qea.specs.declared.configuration.Configuration.{Configuration}
 use Rattle.qea.specs.declared.term.Term.{Term}
 use Rattle.qea.specs.declared.term.Term.TheVariants.{Blank, Variable, Register, Constant}
 use Rattle.qea.specs.Limits.{max_quantifiers}
-use Rattle.qea.specs.Lists.{every, gathered, firsts, present}
+use Rattle.qea.specs.Lists.{gathered, firsts, present}
 use Rattle.qea.specs.Values.{same}
 use Rattle.qea.specs.Events.{Event}
 use Rattle.qea.specs.Meaning.{Meaning, place, holds, acted}

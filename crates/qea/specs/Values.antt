@@ -1,5 +1,5 @@
 -- Values: the whole numbers that events, constants, registers and theories deal in.
-use Rattle.std.specs.Prelude.{Bool, true, false, ℤ, pos, negsuc, ◌==◌, nat_le, unsigned_abs}
+use Rattle.std.specs.Prelude.{Bool, false, ℤ, pos, negsuc, ◌==◌, nat_le, unsigned_abs}
 use Rattle.qea.specs.Limits.{max_value}
 
 -- from -10^12 to 10^12

@@ -1,5 +1,7 @@
 //! The vocabulary of quantified event automata.
 
+#![tactic(auto)]
+
 mod automaton;
 mod cases;
 mod configuration;

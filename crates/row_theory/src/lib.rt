@@ -1,5 +1,7 @@
 //! Theories given by rows, proved once for every kind of row.
 
+#![tactic(auto)]
+
 mod calls;
 mod row;
 mod rows;

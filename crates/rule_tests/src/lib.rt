@@ -1,5 +1,7 @@
 //! Cases for theories, drafts and sealing, each a table in one test.
 
+#![tactic(auto)]
+
 #[cfg(test)]
 mod tests {
     use circular_theory::{CircularAction, CircularGuard, CircularTheory, reduced};

@@ -1,5 +1,7 @@
 //! The rows of a rule, and the check that they are well formed for a theory.
 
+#![tactic(auto)]
+
 mod checks;
 mod first_fault;
 mod table;

@@ -1,5 +1,7 @@
 //! Theories: numbered guards and actions, and what they mean.
 
+#![tactic(auto)]
+
 mod asked;
 mod theory;
 

@@ -4,12 +4,12 @@ use Rattle.distance.proofs.trial.after_legs.Goals as goal
 
 pub loop-leg-preserved : goal.loop-leg-preserved
 loop-leg-preserved g c =
-    times_more (g.T.Theory.meaning c.args.rule.now.theory) 1 c.args.legs c.loop-leg.-leg c.loop-leg.row _ c.loop-leg.invariant c.in-ok-row.row (omega arith) c.in-ok-row.ensures
+    times_more (g.T.Theory.meaning c.args.rule.now.theory) 1 c.args.legs c.loop-leg.-leg c.loop-leg.row _ c.loop-leg.invariant c.in_ok-row.row (omega arith) c.in_ok-row.ensures
 
-pub returns-in-err-row : goal.returns-in-err-row
-returns-in-err-row g c =
+pub returns-in_err-row : goal.returns-in_err-row
+returns-in_err-row g c =
     c.from-residual.ensures
-    ∙ times_gone (g.T.Theory.meaning c.args.rule.now.theory) 1 c.args.legs c.loop-leg.-leg c.loop-leg.row _ c.loop-leg.invariant (omega arith) c.in-err-row.ensures
+    ∙ times_gone (g.T.Theory.meaning c.args.rule.now.theory) 1 c.args.legs c.loop-leg.-leg c.loop-leg.row _ c.loop-leg.invariant (omega arith) c.in_err-row.ensures
 
 pub returns : goal.returns
 returns g c =

@@ -40,27 +40,27 @@ module _ (t : Table) (m : Meaning) where
   transitions_said : (l : List Transition) (r : Result (Unit {0}) Description) → l ≡ items t.transitions → r ≡ unless (first_fault (transition_fault (automaton_of t) m) 0 l) → r ≡ unless in_transitions
   transitions_said l r is said = said ∙ ap (λ (x : List Transition). unless (first_fault (transition_fault (automaton_of t) m) 0 x)) is
 
-pub returns-in-err-check-rows : goal.returns-in-err-check-rows
-returns-in-err-check-rows g c =
+pub returns-in_err-check_rows : goal.returns-in_err-check_rows
+returns-in_err-check_rows g c =
     let t = c.args.table.now in
     let m = g.T.Theory.meaning c.args.theory.now in
     let a = automaton_of t in
     let p = err_from_is_err_and c.from-residual.result c.from-residual.ensures.1 in
-    let d : Description = table_fault c.in-err-check-rows.field-0.0 in
+    let d : Description = table_fault c.in_err-check_rows.field-0.0 in
     let is : told table_fault c.from-residual.result ≡ Err d = ap (told table_fault) p.1 ∙ ap (λ (f : TableFault). Err (table_fault f)) p.2 in
-    let said = quantifiers_said t m c.as-slice.result.now (Err d) c.as-slice.ensures c.in-err-check-rows.ensures in
+    let said = quantifiers_said t m c.as-slice.result.now (Err d) c.as-slice.ensures c.in_err-check_rows.ensures in
     is ∙ stopped (in_quantifiers t m) (after_quantifiers t m) d said ∙ passed_on (no_state a) (or_else (in_quantifiers t m) (after_quantifiers t m)) (some_state a (search rules))
 
-pub returns-in-err-check-rows-2 : goal.returns-in-err-check-rows-2
-returns-in-err-check-rows-2 g c =
+pub returns-in_err-check_rows-2 : goal.returns-in_err-check_rows-2
+returns-in_err-check_rows-2 g c =
     let t = c.args.table.now in
     let m = g.T.Theory.meaning c.args.theory.now in
     let a = automaton_of t in
-    let p = err_from_is_err_and c.from-residual-in-err-check-rows-2.result c.from-residual-in-err-check-rows-2.ensures.1 in
-    let d : Description = table_fault c.in-err-check-rows-2.field-0.0 in
-    let is : told table_fault c.from-residual-in-err-check-rows-2.result ≡ Err d = ap (told table_fault) p.1 ∙ ap (λ (f : TableFault). Err (table_fault f)) p.2 in
-    let first = quantifiers_said t m c.as-slice.result.now (Ok tt) c.as-slice.ensures c.in-ok-check-rows.ensures in
-    let said = patterns_said t m c.as-slice-2.result.now (Err d) c.as-slice-2.ensures c.in-err-check-rows-2.ensures in
+    let p = err_from_is_err_and c.from-residual-in_err-check_rows-2.result c.from-residual-in_err-check_rows-2.ensures.1 in
+    let d : Description = table_fault c.in_err-check_rows-2.field-0.0 in
+    let is : told table_fault c.from-residual-in_err-check_rows-2.result ≡ Err d = ap (told table_fault) p.1 ∙ ap (λ (f : TableFault). Err (table_fault f)) p.2 in
+    let first = quantifiers_said t m c.as-slice.result.now (Ok tt) c.as-slice.ensures c.in_ok-check_rows.ensures in
+    let said = patterns_said t m c.as-slice-2.result.now (Err d) c.as-slice-2.ensures c.in_err-check_rows-2.ensures in
     is ∙ stopped (in_patterns t m) (in_transitions t m) d said ∙ passed_on (in_quantifiers t m) (after_quantifiers t m) first ∙ passed_on (no_state a) (or_else (in_quantifiers t m) (after_quantifiers t m)) (some_state a (search rules))
 
 pub returns : goal.returns
@@ -68,7 +68,7 @@ returns g c =
     let t = c.args.table.now in
     let m = g.T.Theory.meaning c.args.theory.now in
     let a = automaton_of t in
-    let first = quantifiers_said t m c.as-slice.result.now (Ok tt) c.as-slice.ensures c.in-ok-check-rows.ensures in
-    let second = patterns_said t m c.as-slice-2.result.now (Ok tt) c.as-slice-2.ensures c.in-ok-check-rows-2.ensures in
-    let third = transitions_said t m c.as-slice-3.result.now (told table_fault c.check-rows-3.result) c.as-slice-3.ensures c.check-rows-3.ensures in
+    let first = quantifiers_said t m c.as-slice.result.now (Ok tt) c.as-slice.ensures c.in_ok-check_rows.ensures in
+    let second = patterns_said t m c.as-slice-2.result.now (Ok tt) c.as-slice-2.ensures c.in_ok-check_rows-2.ensures in
+    let third = transitions_said t m c.as-slice-3.result.now (told table_fault c.check_rows-3.result) c.as-slice-3.ensures c.check_rows-3.ensures in
     third ∙ passed_on (in_patterns t m) (in_transitions t m) second ∙ passed_on (in_quantifiers t m) (after_quantifiers t m) first ∙ passed_on (no_state a) (or_else (in_quantifiers t m) (after_quantifiers t m)) (some_state a (search rules))

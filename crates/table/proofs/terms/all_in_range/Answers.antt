@@ -6,11 +6,11 @@ use Rattle.table.proofs.terms.all_in_range.Goals as goal
 
 pub loop-term-preserved : goal.loop-term-preserved
 loop-term-preserved c =
-    every_later term_in_range c.args.terms.now c.loop-term.term-index Blank _ c.loop-term-test.true c.if-not-is-in-range.ensures c.loop-term.invariant
+    every_later term_in_range c.args.terms.now c.loop-term.term-index Blank _ c.loop-term-test.true c.if-not-is_in_range.ensures c.loop-term.invariant
 
-pub returns-then-not-is-in-range : goal.returns-then-not-is-in-range
-returns-then-not-is-in-range c =
-    every_fails term_in_range c.args.terms.now c.loop-term.term-index Blank _ c.loop-term-test.true c.if-not-is-in-range.ensures c.loop-term.invariant
+pub returns-then-not-is_in_range : goal.returns-then-not-is_in_range
+returns-then-not-is_in_range c =
+    every_fails term_in_range c.args.terms.now c.loop-term.term-index Blank _ c.loop-term-test.true c.if-not-is_in_range.ensures c.loop-term.invariant
 
 pub returns : goal.returns
 returns c = every_ends term_in_range c.args.terms.now c.loop-term.term-index _ c.loop-term-test.false c.loop-term.invariant

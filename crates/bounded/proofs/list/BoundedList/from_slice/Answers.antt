@@ -5,7 +5,7 @@ use Rattle.bounded.proofs.list.BoundedList.from_slice.Goals as goal
 
 pub loop-item-preserved : goal.loop-item-preserved
 loop-item-preserved g c =
-    taken_more c.args.all.now c.loop-item.item-index (items c.loop-item.list) (items c.push.new.self) c.item-item.result (omega arith) c.item-item.is c.loop-item.invariant c.in-ok-push.ensures.after
+    taken_more c.args.all.now c.loop-item.item-index (items c.loop-item.list) (items c.push.new.self) c.item-item.result (omega arith) c.item-item.is c.loop-item.invariant c.in_ok-push.ensures.after
 
 pub returns : goal.returns
 returns g c =

@@ -31,12 +31,12 @@ module _ (c : After-scaled-b) where
   small_b : nat_abs c.scaled-b.result ≤ 2 ^ 84
   small_b = scaled_small c.args.self.now.n at_b c.scaled-b.result (search rules) (search rules) is_b
 
-pub overflow-add-result : goal.overflow-add-result
-overflow-add-result c = first_sum_fits c.scaled-a.result c.scaled-b.result c.args.self.now.c (small_a c) (small_b c) (search rules)
+pub overflow_add-result : goal.overflow_add-result
+overflow_add-result c = first_sum_fits c.scaled-a.result c.scaled-b.result c.args.self.now.c (small_a c) (small_b c) (search rules)
 
-pub overflow-add-result-2 : goal.overflow-add-result-2
-overflow-add-result-2 c =
-    let b = (goal.at.overflow-add-result-2 c).After-scaled-b in
+pub overflow_add-result-2 : goal.overflow_add-result-2
+overflow_add-result-2 c =
+    let b = (goal.at.overflow_add-result-2 c).After-scaled-b in
     second_sum_fits c.scaled-a.result c.scaled-b.result c.args.self.now.c (small_a b) (small_b b) (search rules)
 
 pub returns : goal.returns

@@ -1,4 +1,4 @@
-use Rattle.std.proofs.Common.{◌≡◌, ℤ, ap, ◌∙◌, w64}
+use Rattle.std.proofs.Common.{ap, ◌∙◌, w64}
 use Rattle.std.proofs.lemmas.Int.{to_z-of_z}
 use Rattle.bounded.specs.Items.{items}
 use Rattle.bounded.proofs.Fronts.{items_few}
@@ -6,12 +6,12 @@ use Rattle.qea.specs.Domains.{position_of}
 use Rattle.qea.proofs.Growing.{with_known, with_new, with_full, apart_new}
 use Rattle.qea.proofs.domain.Domain.with.Goals as goal
 
-pub invariant-of-result : goal.invariant-of-result
-invariant-of-result c =
+pub invariant_of-result : goal.invariant_of-result
+invariant_of-result c =
     let f = c.ranges.value in
     let d = items c.args.self.values in
     let v = c.args.value in
-    (apart_new d v (items c.push.new.self) c.args.self.apart (c.in-None.ensures ∙ ap (position_of d) (to_z-of_z w64 v f)) (simp to_z-of_z at c.in-Some-push.ensures.after), tt)
+    record { apart = apart_new d v (items c.push.new.self) c.args.self.apart (c.in-None.ensures ∙ ap (position_of d) (to_z-of_z w64 v f)) (simp to_z-of_z at c.in-Some-push.ensures.after) }
 
 pub returns-in-Some : goal.returns-in-Some
 returns-in-Some c =
