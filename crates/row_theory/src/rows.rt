@@ -4,7 +4,7 @@ use bounded::BoundedList;
 use qea::{MAX_ACTIONS, MAX_GUARDS};
 
 // A theory whose guards and actions are rows, numbered from 1.
-#[derive(Clone, Copy)]
+#[derive_where(Clone, Copy; G: Copy, A: Copy)]
 pub struct RowTheory<G, A> {
     pub(crate) guards: BoundedList<G, MAX_GUARDS>,
     pub(crate) actions: BoundedList<A, MAX_ACTIONS>,

@@ -8,7 +8,7 @@ loop-leg-preserved g c =
 
 pub returns-in_err-row : goal.returns-in_err-row
 returns-in_err-row g c =
-    c.from-residual.ensures
+    c.from_residual.ensures
     ∙ times_gone (g.T.Theory.meaning c.args.rule.now.theory) 1 c.args.legs c.loop-leg.-leg c.loop-leg.row _ c.loop-leg.invariant (omega arith) c.in_err-row.ensures
 
 pub returns : goal.returns

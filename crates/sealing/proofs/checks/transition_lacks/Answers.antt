@@ -8,5 +8,5 @@ pub returns : goal.returns
 returns g c =
     let t = c.args.transition in
     let patterns = c.len.ensures ∙ sym (length-map (items c.args.table.now.patterns) pattern_of) in
-    ap₂ (λ (s p : ℕ). leb s t.from || leb p t.pattern || not c.guard-is-there-guard-absent.result || not c.action-is-there-action-absent.result || leb s t.to) c.len-states.ensures patterns
-    ∙ ap₂ (λ (x y : Bool). leb (length (items c.args.table.now.states)) t.from || leb (length (map pattern_of (items c.args.table.now.patterns))) t.pattern || not x || not y || leb (length (items c.args.table.now.states)) t.to) c.guard-is-there-guard-absent.ensures c.action-is-there-action-absent.ensures
+    ap₂ (λ (s p : ℕ). leb s t.from || leb p t.pattern || not c.guard_is_there-guard_absent.result || not c.action_is_there-action_absent.result || leb s t.to) c.len-states.ensures patterns
+    ∙ ap₂ (λ (x y : Bool). leb (length (items c.args.table.now.states)) t.from || leb (length (map pattern_of (items c.args.table.now.patterns))) t.pattern || not x || not y || leb (length (items c.args.table.now.states)) t.to) c.guard_is_there-guard_absent.ensures c.action_is_there-action_absent.ensures

@@ -45,10 +45,10 @@ returns-in_err-check_rows g c =
     let t = c.args.table.now in
     let m = g.T.Theory.meaning c.args.theory.now in
     let a = automaton_of t in
-    let p = err_from_is_err_and c.from-residual.result c.from-residual.ensures.1 in
+    let p = err_from_is_err_and c.from_residual.result c.from_residual.ensures.1 in
     let d : Description = table_fault c.in_err-check_rows.field-0.0 in
-    let is : told table_fault c.from-residual.result ≡ Err d = ap (told table_fault) p.1 ∙ ap (λ (f : TableFault). Err (table_fault f)) p.2 in
-    let said = quantifiers_said t m c.as-slice.result.now (Err d) c.as-slice.ensures c.in_err-check_rows.ensures in
+    let is : told table_fault c.from_residual.result ≡ Err d = ap (told table_fault) p.1 ∙ ap (λ (f : TableFault). Err (table_fault f)) p.2 in
+    let said = quantifiers_said t m c.as_slice.result.now (Err d) c.as_slice.ensures c.in_err-check_rows.ensures in
     is ∙ stopped (in_quantifiers t m) (after_quantifiers t m) d said ∙ passed_on (no_state a) (or_else (in_quantifiers t m) (after_quantifiers t m)) (some_state a (search rules))
 
 pub returns-in_err-check_rows-2 : goal.returns-in_err-check_rows-2
@@ -56,11 +56,11 @@ returns-in_err-check_rows-2 g c =
     let t = c.args.table.now in
     let m = g.T.Theory.meaning c.args.theory.now in
     let a = automaton_of t in
-    let p = err_from_is_err_and c.from-residual-in_err-check_rows-2.result c.from-residual-in_err-check_rows-2.ensures.1 in
+    let p = err_from_is_err_and c.from_residual-in_err-check_rows-2.result c.from_residual-in_err-check_rows-2.ensures.1 in
     let d : Description = table_fault c.in_err-check_rows-2.field-0.0 in
-    let is : told table_fault c.from-residual-in_err-check_rows-2.result ≡ Err d = ap (told table_fault) p.1 ∙ ap (λ (f : TableFault). Err (table_fault f)) p.2 in
-    let first = quantifiers_said t m c.as-slice.result.now (Ok tt) c.as-slice.ensures c.in_ok-check_rows.ensures in
-    let said = patterns_said t m c.as-slice-2.result.now (Err d) c.as-slice-2.ensures c.in_err-check_rows-2.ensures in
+    let is : told table_fault c.from_residual-in_err-check_rows-2.result ≡ Err d = ap (told table_fault) p.1 ∙ ap (λ (f : TableFault). Err (table_fault f)) p.2 in
+    let first = quantifiers_said t m c.as_slice.result.now (Ok tt) c.as_slice.ensures c.in_ok-check_rows.ensures in
+    let said = patterns_said t m c.as_slice-2.result.now (Err d) c.as_slice-2.ensures c.in_err-check_rows-2.ensures in
     is ∙ stopped (in_patterns t m) (in_transitions t m) d said ∙ passed_on (in_quantifiers t m) (after_quantifiers t m) first ∙ passed_on (no_state a) (or_else (in_quantifiers t m) (after_quantifiers t m)) (some_state a (search rules))
 
 pub returns : goal.returns
@@ -68,7 +68,7 @@ returns g c =
     let t = c.args.table.now in
     let m = g.T.Theory.meaning c.args.theory.now in
     let a = automaton_of t in
-    let first = quantifiers_said t m c.as-slice.result.now (Ok tt) c.as-slice.ensures c.in_ok-check_rows.ensures in
-    let second = patterns_said t m c.as-slice-2.result.now (Ok tt) c.as-slice-2.ensures c.in_ok-check_rows-2.ensures in
-    let third = transitions_said t m c.as-slice-3.result.now (told table_fault c.check_rows-3.result) c.as-slice-3.ensures c.check_rows-3.ensures in
+    let first = quantifiers_said t m c.as_slice.result.now (Ok tt) c.as_slice.ensures c.in_ok-check_rows.ensures in
+    let second = patterns_said t m c.as_slice-2.result.now (Ok tt) c.as_slice-2.ensures c.in_ok-check_rows-2.ensures in
+    let third = transitions_said t m c.as_slice-3.result.now (told table_fault c.check_rows-3.result) c.as_slice-3.ensures c.check_rows-3.ensures in
     third ∙ passed_on (in_patterns t m) (in_transitions t m) second ∙ passed_on (in_quantifiers t m) (after_quantifiers t m) first ∙ passed_on (no_state a) (or_else (in_quantifiers t m) (after_quantifiers t m)) (some_state a (search rules))

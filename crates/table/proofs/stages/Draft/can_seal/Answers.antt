@@ -5,6 +5,6 @@ use Rattle.table.proofs.stages.Draft.can_seal.Goals as goal
 pub returns : goal.returns
 returns g c =
     record {
-      answer = c.check-table.ensures;
-      decides = answer_decides (automaton_of c.args.self.now.table) (g.T.Theory.meaning c.args.theory.now) c.check-table.result c.check-table.ensures;
+      answer = c.check_table.ensures;
+      decides = answer_decides (automaton_of c.args.self.now.table) (g.T.Theory.meaning c.args.theory.now) c.check_table.result c.check_table.ensures;
     }
