@@ -1,11 +1,11 @@
 -- Arcs and turns over a row, and their reading law. The meaning of a circular theory carries it.
-use Rattle.std.specs.Prelude.{◌≡◌, ℕ, ◌+◌, ◌<◌, Bool, true, ◌&&◌, ◌||◌, List, ℤ, pos, negsuc, Some, ◌==◌, nat_eq, nat_le, refl}
+use Rattle.std.specs.Prelude.{◌≡◌, ℕ, ◌+◌, ◌<◌, Bool, true, ◌&&◌, ◌||◌, List, ℤ, pos, Some, ◌==◌, nat_eq, nat_le, refl}
 use Rattle.std.proofs.Common.{ap, ap₂, subst, ⊎_elim, arith}
 use Rattle.std.proofs.lemmas.Bool.{or_cases, or_left, or_right, eq-eqb, eqb-true, le-leb}
 use Rattle.qea.specs.Limits.{places, max_value}
 use Rattle.qea.specs.Values.{is_value}
 use Rattle.qea.specs.Meaning.{place, Agree}
-use Rattle.circular_theory.specs.Bearings.{circle, bearing}
+use Rattle.circular_theory.specs.Bearings.{bearing}
 
 -- the bearing at a place lies on the arc from lo to hi
 abbrev pub arc_holds : ℕ → ℕ → ℕ → List ℤ → Bool

@@ -1,12 +1,11 @@
 -- Circular theories: what their rows mean.
-use Rattle.std.specs.Prelude.{◌≡◌, ℕ, ◌+◌, ◌<◌, Bool, true, cond, ◌&&◌, ◌||◌, List, ℤ, pos, Some, None, Option, ◌==◌, nat_eq, nat_lt, refl}
-use Rattle.std.proofs.Common.{ap, ap₂, subst, ⊎_elim, arith}
+use Rattle.std.specs.Prelude.{ℕ, cond, ◌&&◌, ◌||◌, pos, Some, None, Option, ◌==◌, nat_eq, nat_lt}
+use Rattle.std.proofs.Common.{ap}
 use Rattle.qea.specs.Limits.{places, registers}
-use Rattle.qea.specs.Values.{is_value}
-use Rattle.qea.specs.Meaning.{place, Agree, Guard, Action}
+use Rattle.qea.specs.Meaning.{Guard, Action}
 use Rattle.circular_theory.specs.declared.rows.CircularGuard.{CircularGuard}
 use Rattle.circular_theory.specs.declared.rows.CircularAction.{CircularAction}
-use Rattle.circular_theory.specs.Bearings.{circle, bearing}
+use Rattle.circular_theory.specs.Bearings.{circle}
 use Rattle.circular_theory.specs.Laws.{arc_holds, turned, arc_agrees, turned_agrees, turned_value, reads_one, reads_two}
 
 -- A guard holds if lo ≤ bearing ≤ hi.

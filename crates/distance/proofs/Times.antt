@@ -1,5 +1,5 @@
 -- Steps of a loop that takes an action again and again.
-use Rattle.std.proofs.Common.{◌≡◌, ℕ, suc, ◌+◌, ◌-◌, ◌<◌, ◌≤◌, List, ℤ, Some, None, Option, sym, ap, ◌∙◌, arith}
+use Rattle.std.proofs.Common.{◌≡◌, ℕ, suc, ◌+◌, ◌-◌, ◌<◌, ◌≤◌, List, ℤ, Some, None, Option, ap, ◌∙◌, arith}
 use Rattle.qea.specs.Meaning.{Meaning, acted}
 use Rattle.distance.specs.Distance.{and_then, acted_times}
 

@@ -4,7 +4,7 @@ use Rattle.qea.specs.declared.term.Term.TheVariants.{Variable, Register}
 use Rattle.qea.specs.declared.automaton.Kind.TheVariants.{ForAll}
 use Rattle.qea.specs.declared.automaton.Mode.TheVariants.{Skip}
 use Rattle.qea.specs.Automaton.{Automaton}
-use Rattle.qea.specs.Meaning.{Meaning, acted, holds, place}
+use Rattle.qea.specs.Meaning.{Meaning, acted, place}
 use Rattle.linear_theory.specs.declared.form.LinearForm.{LinearForm}
 
 -- For all routes: a leg (event 1: route, length) adds its length to the sum; a panel (event 2: route, figure) that shows too little fails.

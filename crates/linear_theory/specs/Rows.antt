@@ -1,5 +1,5 @@
 -- Linear theories: what their rows mean.
-use Rattle.std.specs.Prelude.{◌≡◌, ℕ, Bool, cond, ◌&&◌, pos, Some, None, Option, nat_lt}
+use Rattle.std.specs.Prelude.{ℕ, cond, ◌&&◌, pos, Some, None, Option, nat_lt}
 use Rattle.std.proofs.Common.{ap}
 use Rattle.qea.specs.Limits.{registers}
 use Rattle.qea.specs.Meaning.{Guard, Action}

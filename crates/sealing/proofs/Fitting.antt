@@ -1,5 +1,5 @@
 -- A row has no fault exactly if it fits.
-use Rattle.std.proofs.Common.{◌≡◌, ℕ, zero, suc, ◌<◌, true, false, not, ◌||◌, ltb, leb, ◌⊎◌, ◌↔◌, List, length, Some, None, Option, sym, refl, subst, arith}
+use Rattle.std.proofs.Common.{◌≡◌, ℕ, zero, suc, ◌<◌, true, false, ◌⊎◌, ◌↔◌, List, length, Some, None, Option, sym, refl, subst, arith}
 use mathlib.Core.Logic.Iff
 use Rattle.std.specs.List.{slice_get}
 use Rattle.std.proofs.lemmas.Bool.{false≢true, eqb-true, eq-eqb}

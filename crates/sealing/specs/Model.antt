@@ -1,5 +1,5 @@
 -- The automaton that a table's rows make.
-use Rattle.std.specs.Prelude.{List, map}
+use Rattle.std.specs.Prelude.{map}
 use Rattle.bounded.specs.Items.{items}
 use Rattle.qea.specs.declared.term.Pattern as declared
 use Rattle.qea.specs.Automaton.{Pattern, Automaton}

@@ -1,5 +1,5 @@
 -- What sealing checks, row by row, and which fault it finds first.
-use Rattle.std.specs.Prelude.{ℕ, suc, Bool, true, false, cond, not, ◌&&◌, ◌||◌, List, [], ◌∷◌, length, Some, None, Ok, Err, Option, Result, ◌==◌, nat_le, nat_lt}
+use Rattle.std.specs.Prelude.{ℕ, suc, Bool, false, cond, not, ◌&&◌, ◌||◌, List, [], ◌∷◌, length, Some, None, Ok, Err, Option, Result, ◌==◌, nat_le, nat_lt}
 use Rattle.std.specs.List.{slice_get}
 use Rattle.qea.specs.declared.fault.RowKind.{RowKind}
 use Rattle.qea.specs.declared.fault.RowKind.TheVariants.{Quantifier as quantifier, State as state, Pattern as pattern, Transition as transition}

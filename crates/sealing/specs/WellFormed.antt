@@ -1,5 +1,5 @@
 -- What it means that a rule is well formed for a theory. Sealing grants exactly such rules.
-use Rattle.std.specs.Prelude.{◌≡◌, ℕ, ◌<◌, ◌≤◌, true, ◌⊎◌, length, is_ok, Some, Ok, Decides, Result}
+use Rattle.std.specs.Prelude.{◌≡◌, ℕ, ◌<◌, ◌≤◌, true, ◌⊎◌, length, is_ok, Some, Decides}
 use Rattle.std.specs.List.{slice_get}
 use Rattle.qea.specs.declared.term.Term.TheVariants.{Variable}
 use Rattle.qea.specs.declared.automaton.Quantifier.{Quantifier}

@@ -1,5 +1,5 @@
 -- The answer of a pattern's row call, put together from the pattern's own check and the room for its row.
-use Rattle.std.proofs.Common.{◌≡◌, ℕ, Bool, true, false, cond, ◌&&◌, ltb, leb, List, [], ◌∷◌, map, length, Ok, Err, Result, sym, refl, ap, ◌∙◌, subst, ap₂, arith}
+use Rattle.std.proofs.Common.{◌≡◌, ℕ, Bool, true, false, cond, ◌&&◌, ltb, leb, List, map, length, Ok, Err, Result, sym, refl, ap, ◌∙◌, ap₂, arith}
 use Rattle.std.proofs.lemmas.List.{length-map, map_push}
 use Rattle.qea.specs.declared.fault.Description.{Description}
 use Rattle.qea.specs.declared.fault.RowKind.TheVariants.{Pattern as pattern}

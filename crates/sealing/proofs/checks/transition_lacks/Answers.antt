@@ -1,4 +1,4 @@
-use Rattle.std.proofs.Common.{◌≡◌, ℕ, Bool, not, ◌||◌, leb, map, length, sym, ap, ◌∙◌, ap₂}
+use Rattle.std.proofs.Common.{ℕ, Bool, not, ◌||◌, leb, map, length, sym, ◌∙◌, ap₂}
 use Rattle.std.proofs.lemmas.List.{length-map}
 use Rattle.bounded.specs.Items.{items}
 use Rattle.sealing.specs.Model.{pattern_of}

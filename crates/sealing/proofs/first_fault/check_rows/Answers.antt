@@ -1,7 +1,6 @@
-use Rattle.std.proofs.Common.{◌≡◌, Ok, Err, Result, ap, ◌∙◌}
+use Rattle.std.proofs.Common.{◌≡◌, Err, ap, ◌∙◌}
 use Rattle.std.proofs.lemmas.Result.{err_from_is_err_and}
 use Rattle.qea.specs.declared.fault.TableFault.{TableFault}
-use Rattle.qea.specs.declared.fault.Description.{Description}
 use Rattle.qea.specs.Faults.{told, table_fault}
 use Rattle.sealing.specs.Model.{automaton_of}
 use Rattle.sealing.proofs.FirstFaults.{fault_later, fault_here, fault_nowhere}

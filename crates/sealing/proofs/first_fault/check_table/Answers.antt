@@ -1,4 +1,4 @@
-use Rattle.std.proofs.Common.{◌≡◌, List, map, Ok, Err, Option, Result, sym, ap, ◌∙◌, rules}
+use Rattle.std.proofs.Common.{◌≡◌, List, map, Ok, Err, Option, Result, ap, ◌∙◌, rules}
 use Rattle.std.proofs.lemmas.Result.{err_from_is_err_and}
 use Rattle.bounded.specs.Items.{items}
 use Rattle.qea.specs.declared.fault.Description.{Description}
@@ -6,12 +6,11 @@ use Rattle.qea.specs.declared.fault.TableFault.{TableFault}
 use Rattle.qea.specs.declared.term.Pattern as declared
 use Rattle.qea.specs.declared.automaton.Quantifier.{Quantifier}
 use Rattle.qea.specs.declared.automaton.Transition.{Transition}
-use Rattle.qea.specs.Automaton.{Automaton}
 use Rattle.qea.specs.Meaning.{Meaning}
 use Rattle.qea.specs.Faults.{told, table_fault}
 use Rattle.sealing.specs.declared.table.Table.{Table}
 use Rattle.sealing.specs.Model.{pattern_of, automaton_of}
-use Rattle.sealing.specs.Sealing.{or_else, first_fault, quantifier_fault, pattern_fault, transition_fault, no_state, unless, sealing}
+use Rattle.sealing.specs.Sealing.{or_else, first_fault, quantifier_fault, pattern_fault, transition_fault, no_state, unless}
 use Rattle.sealing.proofs.FirstFaults.{first_fault_map, passed_on, stopped, some_state}
 use Rattle.sealing.proofs.first_fault.check_table.Goals as goal
 

@@ -1,4 +1,3 @@
-use Rattle.qea.specs.Lists.{every}
 use Rattle.qea.specs.declared.term.Term.TheVariants.{Blank}
 use Rattle.qea.proofs.Everys.{every_later, every_fails, every_ends}
 use Rattle.table.specs.Terms.{term_in_range}

@@ -1,6 +1,5 @@
-use Rattle.std.proofs.Common.{◌≡◌, ◌^◌, ◌≤◌, true, get_or, ℤ, pos, ◌+ℤ◌, ◌*ℤ◌, nat_abs, ◌∙◌, ap₂, w64, SFits, rules}
+use Rattle.std.proofs.Common.{◌≡◌, ◌^◌, ◌≤◌, get_or, ℤ, pos, ◌+ℤ◌, ◌*ℤ◌, nat_abs, ◌∙◌, ap₂, w64, SFits, rules}
 use Rattle.std.proofs.lemmas.Int.{to_z-of_z}
-use Rattle.linear_theory.specs.Forms.{is_factor}
 use Rattle.linear_theory.proofs.Products.{first_sum_fits, second_sum_fits, sum_is, scaled_small}
 use Rattle.linear_theory.proofs.form.LinearForm.sum.Goals as goal
 use Rattle.linear_theory.proofs.form.LinearForm.sum.Goals.{After-scaled-b}
