@@ -7,7 +7,7 @@ use Rattle.linear_theory.specs.declared.form.Relation.{Relation}
 use Rattle.linear_theory.specs.declared.form.Relation.TheVariants.{Less, Equal, Greater}
 use Rattle.linear_theory.specs.declared.form.LinearForm.{LinearForm}
 
--- m and n lie from -max-factor to max_factor
+-- m and n lie from -max_factor to max_factor
 abbrev pub max_factor : ℕ
 max_factor = 1_000_000
 

@@ -1,7 +1,7 @@
 -- The limits of the subject, as src/limits.rt names them.
 use Rattle.std.specs.Prelude.{ℕ}
 
--- a value is a whole number from -max-value to max_value
+-- a value is a whole number from -max_value to max_value
 abbrev pub max_value : ℕ
 max_value = 1_000_000_000_000
 

@@ -21,11 +21,11 @@ next_row kind rows = first_row kind + length rows
 
 -- The row's number, or 2 if one of its numbers is out of range, or 5 if there is no room.
 abbrev pub row_answer : RowKind → ℕ → Bool → Bool → Result ℕ Description
-row_answer kind row in-range room = cond in-range (cond room (Ok row) (Err (in_row 5 kind row))) (Err (in_row 2 kind row))
+row_answer kind row in_range room = cond in_range (cond room (Ok row) (Err (in_row 5 kind row))) (Err (in_row 2 kind row))
 
 -- The answer where there may be so many rows of the kind.
 abbrev pub adding : {X : Type 0} → RowKind → ℕ → Bool → List X → Result ℕ Description
-adding kind most in-range rows = row_answer kind (next_row kind rows) in-range (nat_lt (length rows) most)
+adding kind most in_range rows = row_answer kind (next_row kind rows) in_range (nat_lt (length rows) most)
 
 -- A granted row stands at the end; a refused call keeps the rows.
 abbrev pub added : {X : Type 0} → Result ℕ Description → List X → X → List X
