@@ -8,11 +8,10 @@ EXAMPLE = examples/distance-to-go
 run:
 	@mkdir -p target
 	@echo "proving and building the monitor (some minutes the first time)"
-	@rt check monitor > target/build.log 2>&1 || { tail -n 40 target/build.log; exit 1; }
-	@target/bin/monitor < $(EXAMPLE)/trial.txt
+	@cd crates/monitor && rt run < ../../$(EXAMPLE)/trial.txt 2> ../../target/build.log || { tail -n 40 ../../target/build.log; exit 1; }
 
 # The example is what the gate runs the program on.
 test:
 	@cmp $(EXAMPLE)/trial.txt crates/monitor/stdin
 	@cmp $(EXAMPLE)/transcript.txt crates/monitor/stdout
-	@rt ci
+	@tools/gate

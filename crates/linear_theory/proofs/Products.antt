@@ -5,14 +5,14 @@ use Rattle.std.proofs.lemmas.Int.{ints, to_z-of_z}
 use Rattle.std.proofs.lemmas.Bool.{leb-true}
 use Rattle.linear_theory.specs.Forms.{is_factor}
 
-natAbs_neg : (n : ℕ) → nat_abs (neg_ℤ (pos n)) ≡ n
-natAbs_neg zero = refl
-natAbs_neg (suc n) = refl
+nat_abs_neg : (n : ℕ) → nat_abs (neg_ℤ (pos n)) ≡ n
+nat_abs_neg zero = refl
+nat_abs_neg (suc n) = refl
 
 nat_abs_mul : (a b : ℤ) → nat_abs (a *ℤ b) ≡ nat_abs a * nat_abs b
 nat_abs_mul (pos a) (pos b) = refl
-nat_abs_mul (pos a) (negsuc b) = natAbs_neg (a * suc b)
-nat_abs_mul (negsuc a) (pos b) = natAbs_neg (suc a * b)
+nat_abs_mul (pos a) (negsuc b) = nat_abs_neg (a * suc b)
+nat_abs_mul (negsuc a) (pos b) = nat_abs_neg (suc a * b)
 nat_abs_mul (negsuc a) (negsuc b) = refl
 
 product_size : (a b : ℤ) (p q : ℕ) → nat_abs a ≤ p → nat_abs b ≤ q → nat_abs (a *ℤ b) ≤ p * q

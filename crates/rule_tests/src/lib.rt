@@ -4,6 +4,7 @@
 
 #[cfg(test)]
 mod tests {
+    use bounded::BoundedList;
     use circular_theory::{CircularAction, CircularGuard, CircularTheory, reduced};
     use linear_theory::{LinearAction, LinearForm, LinearGuard, LinearTheory, Relation};
     use qea::{
@@ -13,6 +14,17 @@ mod tests {
     use row_theory::ActionRow;
     use table::Draft;
     use theory::Theory;
+
+    // A list and a theory of rows are cloned whole, and memory never runs out for it.
+    #[test]
+    fn clones(rt: HostRuntime) {
+        let mut list = BoundedList::<i64, 4>::empty(0);
+        let _ = list.push(7);
+        let copied = list.clone().ok().map(|copy| copy.get(0));
+        assert_eq!(rt; copied, Some(Some(7)));
+        let guards = two_rows().clone().ok().map(|copy| copy.guards().len());
+        assert_eq!(rt; guards, Some(1));
+    }
 
     // Bearings at and around zero, and at the ends of 64 bits.
     #[test]
