@@ -2,7 +2,7 @@
 
 #![tactic(auto)]
 
-ghost use Rattle.std.specs.Prelude.{◌≡◌, [], length};
+ghost use Rattle.std.specs.Prelude.{◌≡◌, ◌==◌, [], length};
 ghost use Rattle.std.specs.Option.{option_map};
 ghost use Rattle.std.specs.List.{slice_get};
 ghost use Rattle.bounded.specs.Items.{items, room_at, pushed, fitting};
@@ -22,7 +22,7 @@ impl<T: Copy, const N: usize> BoundedList<T, N> {
         }
     }
 
-    // These items, or none if there are too many. The other slots hold `fill`.
+    // These items, or none if there are too many. The other slots hold `fill`, for which `TryFrom` has no place.
     pub fn from_slice(fill: T, all: &[T]) -> Option<BoundedList<T, N>>
         ensures { option_map items result ≡ fitting N all.now }
     {
@@ -39,21 +39,23 @@ impl<T: Copy, const N: usize> BoundedList<T, N> {
         self.as_slice().len()
     }
 
+    pub fn is_empty(&self) -> bool
+        ensures { result ≡ (length (items self.now) == 0) }
+    {
+        self.as_slice().is_empty()
+    }
+
     pub fn as_slice(&self) -> &[T]
         ensures { result.now ≡ items self.now }
     {
-        let slots = &self.slots[..];
-        &slots[0..self.len]
+        &self.slots[..self.len]
     }
 
     // The item at a place, or none past the end.
     pub fn get(&self, at: usize) -> Option<T>
         ensures { result ≡ slice_get (items self.now) at }
     {
-        if at >= self.len {
-            return None;
-        }
-        Some(self.slots[at])
+        self.as_slice().get(at).copied()
     }
 
     // Puts an item at the end and answers its place. A full list answers none and stays as it is.
@@ -61,6 +63,7 @@ impl<T: Copy, const N: usize> BoundedList<T, N> {
         ensures place { result ≡ room_at N (items self.old) }
         ensures after { items self.new ≡ pushed result (items self.old) item }
     {
+        // By place: after a write through `get_mut`, a proof knows nothing of the array's slots.
         let at = self.len;
         if at == N {
             return None;
@@ -68,5 +71,14 @@ impl<T: Copy, const N: usize> BoundedList<T, N> {
         self.slots[at] = item;
         self.len = at + 1;
         Some(at)
+    }
+}
+
+// No item yet. The slots hold the default.
+impl<T: Copy + Default, const N: usize> Default for BoundedList<T, N> {
+    ghost is_default = { λ l. items l ≡ [] };
+
+    fn default() -> BoundedList<T, N> {
+        BoundedList::empty(T::default())
     }
 }

@@ -10,17 +10,18 @@ use qea::{PLACES, REGISTERS};
 use row_theory::{ActionRow, GuardRow};
 
 impl CircularGuard {
-    // The guard, or none if a number is out of range.
+    // The guard, or none if a number is out of range. It is made after the test, not by `then_some`, since its type holds only then.
     pub fn new(place: u8, lo: u16, hi: u16) -> Option<CircularGuard>
         ensures { option_map guard_numbers result ≡ ranged_guard place lo hi }
     {
-        if place as usize >= PLACES || lo >= CIRCLE || hi >= CIRCLE {
+        if usize::from(place) >= PLACES || lo >= CIRCLE || hi >= CIRCLE {
             return None;
         }
         Some(CircularGuard { place, lo, hi })
     }
 }
 
+// What unused slots of a theory hold. By hand, since no Default is derived beside a ghost field.
 impl Default for CircularGuard {
     ghost is_default = { λ g. guard_numbers g ≡ (0, 0, 0) };
 
@@ -41,8 +42,8 @@ impl GuardRow for CircularGuard {
     }
 
     fn holds(&self, row: &[i64; PLACES]) -> bool {
-        let bearing = reduced(row[self.place as usize]);
-        self.lo <= bearing && bearing <= self.hi
+        let bearing = reduced(row[usize::from(self.place)]);
+        (self.lo..=self.hi).contains(&bearing)
     }
 }
 
@@ -51,9 +52,9 @@ impl CircularAction {
     pub fn new(register: u8, a: u8, b: u8, c: u16) -> Option<CircularAction>
         ensures { option_map action_numbers result ≡ ranged_action register a b c }
     {
-        if register as usize >= REGISTERS
-            || a as usize >= PLACES
-            || b as usize >= PLACES
+        if usize::from(register) >= REGISTERS
+            || usize::from(a) >= PLACES
+            || usize::from(b) >= PLACES
             || c >= CIRCLE
         {
             return None;
@@ -62,6 +63,7 @@ impl CircularAction {
     }
 }
 
+// By hand as well.
 impl Default for CircularAction {
     ghost is_default = { λ x. action_numbers x ≡ (0, 0, 0, 0) };
 
@@ -83,9 +85,9 @@ impl ActionRow for CircularAction {
     }
 
     fn result(&self, row: &[i64; PLACES]) -> Option<i64> {
-        let a = reduced(row[self.a as usize]);
-        let b = reduced(row[self.b as usize]);
-        Some(((a + b + self.c) % CIRCLE) as i64)
+        let a = reduced(row[usize::from(self.a)]);
+        let b = reduced(row[usize::from(self.b)]);
+        Some(i64::from((a + b + self.c) % CIRCLE))
     }
 
     fn register(&self) -> u8 {

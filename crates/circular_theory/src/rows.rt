@@ -1,4 +1,5 @@
-//! The rows of a circular theory. Their types say that their numbers are in range.
+//! The rows of a circular theory. Their types say that their numbers are in range. Places and registers are plain numbers, as the
+//! theory's questions take them; types of their own would be unwrapped at each use.
 
 ghost use Rattle.std.specs.Prelude.{◌<◌};
 ghost use Rattle.qea.specs.Limits.{places, registers};

@@ -1,2 +1,2 @@
-pub mod Times
 pub mod Figured
+pub mod Times

@@ -1,7 +1,8 @@
 -- Linear forms: m × A + n × B + c over the places of a row.
 use Rattle.std.specs.Prelude.{ℕ, Bool, cond, not, ◌&&◌, ◌||◌, List, ℤ, pos, ◌+ℤ◌, ◌*ℤ◌, Some, None, Option, ◌==◌, int_lt, nat_le, nat_lt, unsigned_abs}
 use Rattle.qea.specs.Limits.{places}
-use Rattle.qea.specs.Values.{is_value, same}
+use Rattle.std.specs.Ordering.{int_eq}
+use Rattle.qea.specs.Values.{is_value}
 use Rattle.qea.specs.Meaning.{place}
 use Rattle.linear_theory.specs.declared.form.Relation.{Relation}
 use Rattle.linear_theory.specs.declared.form.Relation.TheVariants.{Less, Equal, Greater}
@@ -22,11 +23,11 @@ sum f row = f.m *ℤ place row f.a +ℤ f.n *ℤ place row f.b +ℤ f.c
 
 -- A is read unless m is 0, B unless n is 0
 abbrev pub form_reads : LinearForm → ℕ → Bool
-form_reads f i = not (same f.m (pos 0)) && f.a == i || not (same f.n (pos 0)) && f.b == i
+form_reads f i = not (int_eq f.m (pos 0)) && f.a == i || not (int_eq f.n (pos 0)) && f.b == i
 
 abbrev pub stands : Relation → ℤ → Bool
 stands Less z = int_lt z (pos 0)
-stands Equal z = same z (pos 0)
+stands Equal z = int_eq z (pos 0)
 stands Greater z = int_lt (pos 0) z
 
 -- the number if it is a value, else 'out of range'

@@ -1,7 +1,7 @@
 //! Linear forms and relations.
 
 // How a number stands to 0.
-#[derive(Clone, Copy)]
+#[derive(Clone, Copy, PartialEq, Eq, Debug)]
 pub enum Relation {
     Less,
     Equal,
@@ -9,7 +9,7 @@ pub enum Relation {
 }
 
 // The sum m × A + n × B + c, where A and B are what stands at the places `a` and `b`.
-#[derive(Clone, Copy)]
+#[derive(Clone, Copy, PartialEq, Eq, Debug, Default)]
 pub struct LinearForm {
     pub m: i64,
     pub a: u8,

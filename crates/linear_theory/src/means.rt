@@ -11,17 +11,8 @@ use crate::sums::value_of;
 use qea::{PLACES, REGISTERS};
 use row_theory::{ActionRow, GuardRow};
 
-// What unused slots of a theory hold.
-const ZERO_FORM: LinearForm = LinearForm {
-    m: 0,
-    a: 0,
-    n: 0,
-    b: 0,
-    c: 0,
-};
-
 impl LinearGuard {
-    // The guard, or none if a number is out of range.
+    // The guard, or none if a number is out of range. It is made after the test, not by `then_some`, since its type holds only then.
     pub fn new(form: LinearForm, relation: Relation) -> Option<LinearGuard>
         ensures { option_map guard_numbers result ≡ ranged_guard form relation }
     {
@@ -32,12 +23,13 @@ impl LinearGuard {
     }
 }
 
+// What unused slots of a theory hold. By hand, since no Default is derived beside a ghost field.
 impl Default for LinearGuard {
     ghost is_default = { λ g. guard_numbers g ≡ (zero_form, Equal) };
 
     fn default() -> LinearGuard {
         LinearGuard {
-            form: ZERO_FORM,
+            form: LinearForm::default(),
             relation: Relation::Equal,
         }
     }
@@ -60,20 +52,21 @@ impl LinearAction {
     pub fn new(register: u8, form: LinearForm) -> Option<LinearAction>
         ensures { option_map action_numbers result ≡ ranged_action register form }
     {
-        if register as usize >= REGISTERS || !form.is_in_range() {
+        if usize::from(register) >= REGISTERS || !form.is_in_range() {
             return None;
         }
         Some(LinearAction { register, form })
     }
 }
 
+// By hand as well.
 impl Default for LinearAction {
     ghost is_default = { λ x. action_numbers x ≡ (0, zero_form) };
 
     fn default() -> LinearAction {
         LinearAction {
             register: 0,
-            form: ZERO_FORM,
+            form: LinearForm::default(),
         }
     }
 }

@@ -1,4 +1,5 @@
-//! The rows of a linear theory. Their types say that their numbers are in range.
+//! The rows of a linear theory. Their types say that their numbers are in range. Places and registers are plain numbers, as the
+//! theory's questions take them; types of their own would be unwrapped at each use, and so would a type of forms in range.
 
 ghost use Rattle.std.specs.Prelude.{◌≡◌, ◌<◌, true};
 ghost use Rattle.qea.specs.Limits.{registers};

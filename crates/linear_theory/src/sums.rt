@@ -1,35 +1,37 @@
 //! What a linear form comes to.
 
-ghost use Rattle.std.specs.Prelude.{◌≡◌, true, ◌*ℤ◌};
-ghost use Rattle.linear_theory.specs.Forms.{is_factor, form_in_range, sum, form_reads, stands, value_of};
+ghost use Rattle.std.specs.Prelude.{◌≡◌, ◌≤◌, ◌*◌, ◌^◌, true, ◌*ℤ◌, unsigned_abs};
+ghost use Rattle.linear_theory.specs.Forms.{max_factor, is_factor, form_in_range, sum, form_reads, stands, value_of};
 
 use crate::form::{LinearForm, Relation};
-use qea::{MAX_VALUE, PLACES, is_value};
+use qea::{PLACES, is_value};
 
 // The factors m and n of a form lie from -MAX_FACTOR to MAX_FACTOR.
 pub const MAX_FACTOR: i64 = 1_000_000;
 
+// As `is_value`, with another limit: one expression each.
 fn is_factor(v: i64) -> bool
     ensures { result ≡ is_factor v }
 {
-    -MAX_FACTOR <= v && v <= MAX_FACTOR
+    (-MAX_FACTOR..=MAX_FACTOR).contains(&v)
 }
 
+// A factor in range keeps the product far below 128 bits, which leaves room for adding.
 fn scaled(factor: i64, value: i64) -> i128
-    ensures { result ≡ factor *ℤ value }
+    ensures product { result ≡ factor *ℤ value }
+    ensures small { is_factor factor ≡ true → unsigned_abs result ≤ max_factor * 2 ^ 63 }
 {
-    factor as i128 * value as i128
+    i128::from(factor) * i128::from(value)
 }
 
 impl LinearForm {
     pub(crate) fn is_in_range(&self) -> bool
         ensures { result ≡ form_in_range self.now }
     {
-        let places = PLACES as u8;
         is_factor(self.m)
-            && self.a < places
+            && usize::from(self.a) < PLACES
             && is_factor(self.n)
-            && self.b < places
+            && usize::from(self.b) < PLACES
             && is_value(self.c)
     }
 
@@ -38,9 +40,9 @@ impl LinearForm {
         requires { form_in_range self.now ≡ true }
         ensures { result ≡ sum self.now row.now }
     {
-        let a = scaled(self.m, row[self.a as usize]);
-        let b = scaled(self.n, row[self.b as usize]);
-        a + b + self.c as i128
+        let a = scaled(self.m, row[usize::from(self.a)]);
+        let b = scaled(self.n, row[usize::from(self.b)]);
+        a + b + i128::from(self.c)
     }
 
     // A is read unless m is 0, B unless n is 0.
@@ -68,8 +70,5 @@ impl Relation {
 pub(crate) fn value_of(z: i128) -> Option<i64>
     ensures { result ≡ value_of z }
 {
-    if -(MAX_VALUE as i128) <= z && z <= MAX_VALUE as i128 {
-        return Some(z as i64);
-    }
-    None
+    i64::try_from(z).ok().filter(|v| is_value(*v))
 }

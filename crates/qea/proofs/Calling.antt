@@ -1,7 +1,7 @@
 -- Runs as lists of calls: what is granted in turn is granted, and a refused offer leaves no trace.
-use Rattle.std.proofs.Common.{◌≡◌, ℕ, Bool, true, false, cond, ◌||◌, List, [], ◌∷◌, ◌++◌, Some, None, Option, sym, refl, ap, ◌∙◌, ap₂, append_assoc, append-nil}
+use Rattle.std.proofs.Common.{◌≡◌, ℕ, Bool, false, cond, ◌||◌, List, [], ◌∷◌, ◌++◌, Some, None, Option, sym, refl, ap, ◌∙◌, ap₂, append_assoc, append-nil}
 use Rattle.qea.specs.declared.fault.Description.{Description}
-use Rattle.qea.specs.Lists.{any, gathered}
+use Rattle.std.specs.List.{list_any, flat_map}
 use Rattle.qea.specs.Events.{Event}
 use Rattle.qea.specs.Meaning.{Meaning}
 use Rattle.qea.specs.Automaton.{Automaton}
@@ -9,7 +9,11 @@ use Rattle.qea.specs.Verdicts.{count}
 use Rattle.qea.specs.Refusals.{refusal, GrantedAfter, Granted}
 use Rattle.qea.specs.Runs.{Call, offer, ask_verdict, begin_again, Reply, is_beginning, since_beginning, offered_by, added_unless, granted_of, events, offer_reply, reply, answers}
 use Rattle.qea.specs.Laws.{AlwaysGranted, after_call, CallsInTurn, NoTrace}
-use Rattle.qea.proofs.Congruences.{folded_append, gathered_append}
+use Rattle.std.proofs.lemmas.List.Sums.{fold-append}
+use Rattle.std.proofs.lemmas.List.Folds.{list_any-append}
+use Rattle.std.proofs.lemmas.Bool.{cond-true, cond-false, cond_both}
+use Rattle.std.proofs.Math.Bool.{or-true, or-false}
+use Rattle.std.proofs.lemmas.Grind.{flat_map-append}
 
 -- granted in turn
 
@@ -29,77 +33,56 @@ module _ (a : Automaton) (m : Meaning) (capacity : ℕ) where
 pub always_granted : AlwaysGranted
 always_granted a m capacity = (
   (λ offered. granted_from a m capacity [] offered tt),
-  λ calls. granted_from a m capacity [] (gathered offered_by (since_beginning calls)) tt,
+  λ calls. granted_from a m capacity [] (flat_map offered_by (since_beginning calls)) tt,
 )
 
 -- one call more
 
-any_push : (calls : List Call) (c : Call) → any is_beginning (calls ++ c ∷ []) ≡ (any is_beginning calls || is_beginning c)
-any_push [] c = or_false (is_beginning c)
-  where
-    or_false : (t : Bool) → (t || false) ≡ t
-    or_false true = refl
-    or_false false = refl
-any_push (x ∷ calls) c = ap (λ (t : Bool). is_beginning x || t) (any_push calls c) ∙ or_assoc (is_beginning x) (any is_beginning calls) (is_beginning c)
-  where
-    or_assoc : (p q r : Bool) → (p || (q || r)) ≡ ((p || q) || r)
-    or_assoc true q r = refl
-    or_assoc false q r = refl
-
-or_true : (t : Bool) → (t || true) ≡ true
-or_true true = refl
-or_true false = refl
-
-or_false : (t : Bool) → (t || false) ≡ t
-or_false true = refl
-or_false false = refl
-
 -- a beginning leaves nothing before it
 since_begun : (calls : List Call) → since_beginning (calls ++ begin_again ∷ []) ≡ []
 since_begun [] = refl
-since_begun (x ∷ calls) =
-    ap (λ (t : Bool). cond t (since_beginning (calls ++ begin_again ∷ [])) (x ∷ calls ++ begin_again ∷ [])) (any_push (x ∷ calls) begin_again ∙ or_true (any is_beginning (x ∷ calls)))
-    ∙ since_begun calls
+since_begun (x ∷ calls) = cond-true (list_any is_beginning (x ∷ calls ++ begin_again ∷ [])) _ _ (list_any-append is_beginning (x ∷ calls) (begin_again ∷ []) ∙ or-true _) ∙ since_begun calls
 
 -- any other call is added
 since_push : (calls : List Call) (c : Call) → is_beginning c ≡ false → since_beginning (calls ++ c ∷ []) ≡ since_beginning calls ++ c ∷ []
 since_push [] c n = ap (λ (t : Bool). cond (t || false) [] (c ∷ [])) n
 since_push (x ∷ calls) c n =
-    ap (λ (t : Bool). cond t (since_beginning (calls ++ c ∷ [])) (x ∷ calls ++ c ∷ [])) (any_push (x ∷ calls) c ∙ ap (λ (t : Bool). any is_beginning (x ∷ calls) || t) n ∙ or_false (any is_beginning (x ∷ calls)))
-    ∙ go (any is_beginning (x ∷ calls)) (since_push calls c n)
-  where
-    go : (t : Bool) → since_beginning (calls ++ c ∷ []) ≡ since_beginning calls ++ c ∷ [] → cond t (since_beginning (calls ++ c ∷ [])) (x ∷ calls ++ c ∷ []) ≡ cond t (since_beginning calls) (x ∷ calls) ++ c ∷ []
-    go true e = e
-    go false e = refl
+    let begins = list_any is_beginning (x ∷ calls) in
+    let then = list_any is_beginning (x ∷ calls ++ c ∷ []) in
+    let same : then ≡ begins = list_any-append is_beginning (x ∷ calls) (c ∷ []) ∙ ap (λ (t : Bool). begins || (t || false)) n ∙ or-false begins in
+    cond_both begins (since_beginning calls) (x ∷ calls) (λ xs. since_beginning (x ∷ calls ++ c ∷ []) ≡ xs ++ c ∷ []) (λ e. cond-true then _ _ (same ∙ e) ∙ since_push calls c n) (λ e. cond-false then _ _ (same ∙ e))
 
 module _ (a : Automaton) (m : Meaning) (capacity : ℕ) where
   events_push : (calls : List Call) (c : Call) → is_beginning c ≡ false → events a m capacity (calls ++ c ∷ []) ≡ granted_of a m capacity (events a m capacity calls) (offered_by c)
   events_push calls c n =
       ap (granted_of a m capacity [])
-      (ap (gathered offered_by) (since_push calls c n) ∙ gathered_append offered_by (since_beginning calls) (c ∷ []) ∙ ap (λ (x : List Event). gathered offered_by (since_beginning calls) ++ x) (append-nil (offered_by c)))
-      ∙ folded_append (λ g e. added_unless (refusal a m capacity g e) g e) [] (gathered offered_by (since_beginning calls)) (offered_by c)
+      (ap (flat_map offered_by) (since_push calls c n) ∙ flat_map-append offered_by (since_beginning calls) (c ∷ []) ∙ ap (λ (x : List Event). flat_map offered_by (since_beginning calls) ++ x) (append-nil (offered_by c)))
+      ∙ fold-append (λ g e. added_unless (refusal a m capacity g e) g e) [] (flat_map offered_by (since_beginning calls)) (offered_by c)
 
 pub calls_in_turn : CallsInTurn
 calls_in_turn a m capacity calls (offer e) = events_push a m capacity calls (offer e) refl
 calls_in_turn a m capacity calls ask_verdict = events_push a m capacity calls ask_verdict refl
-calls_in_turn a m capacity calls begin_again = ap (λ (x : List Call). granted_of a m capacity [] (gathered offered_by x)) (since_begun calls)
+calls_in_turn a m capacity calls begin_again = ap (λ (x : List Call). granted_of a m capacity [] (flat_map offered_by x)) (since_begun calls)
 
 -- no trace
 
 module _ (a : Automaton) (m : Meaning) (capacity : ℕ) where
-  -- later answers and events depend on the events so far alone
+  -- the next events, later answers and all later events depend on the events so far alone
+  next_alike : (before other : List Call) (c : Call) → events a m capacity before ≡ events a m capacity other → events a m capacity (before ++ c ∷ []) ≡ events a m capacity (other ++ c ∷ [])
+  next_alike before other c e = calls_in_turn a m capacity before c ∙ ap (λ (h : List Event). after_call a m capacity h c) e ∙ sym (calls_in_turn a m capacity other c)
+
   events_alike : (before other later : List Call) → events a m capacity before ≡ events a m capacity other → events a m capacity (before ++ later) ≡ events a m capacity (other ++ later)
   events_alike before other [] e = ap (events a m capacity) (append-nil before) ∙ e ∙ sym (ap (events a m capacity) (append-nil other))
   events_alike before other (c ∷ later) e =
       ap (events a m capacity) (sym (append_assoc before (c ∷ []) later))
-      ∙ events_alike (before ++ c ∷ []) (other ++ c ∷ []) later (calls_in_turn a m capacity before c ∙ ap (λ (h : List Event). after_call a m capacity h c) e ∙ sym (calls_in_turn a m capacity other c))
+      ∙ events_alike (before ++ c ∷ []) (other ++ c ∷ []) later (next_alike before other c e)
       ∙ ap (events a m capacity) (append_assoc other (c ∷ []) later)
 
   answers_alike : (before other later : List Call) → events a m capacity before ≡ events a m capacity other → answers a m capacity before later ≡ answers a m capacity other later
   answers_alike before other [] e = refl
   answers_alike before other (c ∷ later) e =
       ap₂ ◌∷◌ (ap (λ (h : List Event). reply a m capacity h c) e)
-      (answers_alike (before ++ c ∷ []) (other ++ c ∷ []) later (calls_in_turn a m capacity before c ∙ ap (λ (h : List Event). after_call a m capacity h c) e ∙ sym (calls_in_turn a m capacity other c)))
+      (answers_alike (before ++ c ∷ []) (other ++ c ∷ []) later (next_alike before other c e))
 
   answers_append : (start before later : List Call) → answers a m capacity start (before ++ later) ≡ answers a m capacity start before ++ answers a m capacity (start ++ before) later
   answers_append start [] later = ap (λ (x : List Call). answers a m capacity x later) (sym (append-nil start))

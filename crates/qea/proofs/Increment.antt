@@ -4,7 +4,8 @@ use Rattle.qea.specs.declared.automaton.Kind.{Kind}
 use Rattle.qea.specs.declared.automaton.Kind.TheVariants.{ForAll, Exists}
 use Rattle.qea.specs.declared.automaton.Quantifier.{Quantifier}
 use Rattle.qea.specs.declared.configuration.Configuration.{Configuration}
-use Rattle.qea.specs.Lists.{every, any, first_some, In, gathered}
+use Rattle.std.specs.List.{list_all, list_any, flat_map}
+use Rattle.qea.specs.Lists.{first_some, In}
 use Rattle.qea.specs.Events.{Event, bad_event_at}
 use Rattle.qea.specs.Meaning.{Meaning}
 use Rattle.qea.specs.Automaton.{Automaton}
@@ -24,7 +25,8 @@ use Rattle.qea.proofs.Congruences.{every_alike, any_alike, kept_by_alike, first_
 use Rattle.qea.proofs.Growth.{length_domains, total_binding, binding_long}
 use Rattle.qea.proofs.Late.{late_configurations}
 use Rattle.qea.proofs.Moving.{goes_on_from_earlier}
-use Rattle.qea.proofs.Listing.{of_bindings, of_totals}
+use Rattle.qea.proofs.Listing.{of_totals}
+use Rattle.qea.proofs.Numbering.{of_domain_bindings}
 use Rattle.qea.proofs.Sighting.{grown_domains}
 use Rattle.qea.proofs.Refusing.{no_domains}
 
@@ -36,19 +38,18 @@ quantified_alike Exists pass f g d h = any_alike _ _ d (λ v i. ap (λ (t : Bool
 
 judged_alike : (m : Meaning) (f g : Binding → Bool) (qs : List Quantifier) (ds : List (List ℤ)) (pre : Binding) → length qs ≡ length ds → ((b : Binding) → TotalOf ds b → f (pre ++ b) ≡ g (pre ++ b)) → judged m f qs ds pre ≡ judged m g qs ds pre
 judged_alike m f g [] [] pre n h = ap f (sym (append-nil pre)) ∙ h [] tt ∙ ap g (append-nil pre)
-judged_alike m f g [] (d ∷ ds) pre n h = absurd (omega arith)
-judged_alike m f g (q ∷ qs) [] pre n h = absurd (omega arith)
 judged_alike m f g (q ∷ qs) (d ∷ ds) pre n h =
     quantified_alike q.kind _ _ _ d
     (λ v i. judged_alike m f g qs ds (pre ++ Some v ∷ []) (omega arith)
     (λ b t. ap f (append_assoc pre (Some v ∷ []) b) ∙ h (Some v ∷ b) (i, t) ∙ sym (ap g (append_assoc pre (Some v ∷ []) b))))
+judged_alike m f g qs ds pre n h = absurd (omega arith)
 
 -- the verdict asks for the lists of total bindings only
 verdict_alike : (a : Automaton) (m : Meaning) (ds : List (List ℤ)) (f g : Binding → List Configuration) → length a.quantifiers ≡ length ds → ((b : Binding) → BindingOf ds b → f b ≡ g b) → verdict_from a m ds f ≡ verdict_from a m ds g
 verdict_alike a m ds f g n h =
-    let passing = filter (λ b. every (λ q. passes m q b) a.quantifiers) (total_bindings ds) in
+    let passing = filter (λ b. list_all (λ q. passes m q b) a.quantifiers) (total_bindings ds) in
     let at : (b : Binding) → In b (total_bindings ds) → f b ≡ g b = λ b i. h b (total_binding ds b (of_totals ds b i)) in
-    let p : (b : Binding) → In b passing → f b ≡ g b = λ b i. at b (of_kept_by (λ x. every (λ q. passes m q x) a.quantifiers) b (total_bindings ds) i).0 in
+    let p : (b : Binding) → In b passing → f b ≡ g b = λ b i. at b (of_kept_by (λ x. list_all (λ q. passes m q x) a.quantifiers) b (total_bindings ds) i).0 in
     let accepting = judged_alike m (λ b. accepts a (f b)) (λ b. accepts a (g b)) a.quantifiers ds [] n (λ b t. ap (accepts a) (h b (total_binding ds b t))) in
     let lost = any_alike (λ b. lost_binding a (f b)) (λ b. lost_binding a (g b)) passing (λ b i. ap (lost_binding a) (p b i)) in
     let won = any_alike (λ b. won_binding a (f b)) (λ b. won_binding a (g b)) passing (λ b i. ap (won_binding a) (p b i)) in
@@ -83,18 +84,18 @@ module _ (a : Automaton) (m : Meaning) (wf : WellFormed a m) (h : List Event) (b
     refused_from capacity =
         ap (refused_at 9 (bad_event_at e.values))
         (ap (refusal_grown a m capacity (domains a h) (lists_in before) e) (grown_domains a m wf h e)
-        ∙ go (overfull_at (gathered (sights a) h) (sights a e)))
+        ∙ go (overfull_at (flat_map (sights a) h) (sights a e)))
       where
         go : (o : Option ℕ) → refusal_grown a m capacity (domains a h) (lists_in before) e (domains_or_position o (domains a (h ++ e ∷ []))) ≡
             refused_at 10 o (
             refused_at 11 (at_zero (store_full capacity (domains a (h ++ e ∷ [])))) (
             refused_at 12 (first_some (λ b. out_of_range_at a m e b (configurations a m b h)) (bindings (domains a (h ++ e ∷ [])))) (
-            refused_at 13 (at_zero (any (λ b. list_full (configurations a m b (h ++ e ∷ []))) (bindings (domains a (h ++ e ∷ []))))) None)))
+            refused_at 13 (at_zero (list_any (λ b. list_full (configurations a m b (h ++ e ∷ []))) (bindings (domains a (h ++ e ∷ []))))) None)))
         go (Some position) = refl
         go None =
             ap₂ (λ (place : Option ℕ) (full : Bool). refused_at 11 (at_zero (store_full capacity (domains a (h ++ e ∷ [])))) (refused_at 12 place (refused_at 13 (at_zero full) None)))
-            (first_some_alike _ _ (bindings (domains a (h ++ e ∷ []))) (λ b i. ap (out_of_range_at a m e b) (list_before b (of_bindings (domains a (h ++ e ∷ [])) b i))))
-            (any_alike _ _ (bindings (domains a (h ++ e ∷ []))) (λ b i. ap list_full (list_after b (of_bindings (domains a (h ++ e ∷ [])) b i))))
+            (first_some_alike _ _ (bindings (domains a (h ++ e ∷ []))) (λ b i. ap (out_of_range_at a m e b) (list_before b (of_domain_bindings a (h ++ e ∷ []) b i))))
+            (any_alike _ _ (bindings (domains a (h ++ e ∷ []))) (λ b i. ap list_full (list_after b (of_domain_bindings a (h ++ e ∷ []) b i))))
 
 pub begins_at_start : BeginsAtStart
 begins_at_start a m = record { empty = λ k. refl; one = no_domains a 0 (length a.quantifiers); lists = λ b. refl }

@@ -1,17 +1,18 @@
 -- A binding with values that its domains still lack has lived as the one that gives nothing there.
-use Rattle.std.proofs.Common.{◌≡◌, ℕ, zero, suc, ◌+◌, ◌<◌, ◌≤◌, Bool, true, false, cond, ◌&&◌, eqb, ◌⊎◌, List, [], ◌∷◌, length, get_or, drop, set, ℤ, Some, None, fold, Option, sym, refl, ap, ◌∙◌, subst, ap₂, inl, inr, ⊎_elim, le_of_suc-le-suc, not-suc-le-zero, arith}
-use Rattle.std.specs.List.{slice_get}
-use Rattle.std.proofs.lemmas.Bool.{eqb-true, eq-eqb, false≢true, true≢false, and_parts, both_ways, cases_lt}
+use Rattle.std.proofs.Common.{◌≡◌, ℕ, zero, suc, ◌+◌, ◌<◌, ◌≤◌, Bool, true, false, cond, ◌&&◌, eqb, ◌⊎◌, List, [], ◌∷◌, length, get_or, ℤ, Some, None, fold, Option, sym, refl, ap, ◌∙◌, subst, ap₂, inl, inr, ⊎_elim, arith}
+use Rattle.std.proofs.lemmas.List.{drop-set-add, get_or_past}
+use Rattle.std.specs.List.{slice_get, list_any, flat_map}
+use Rattle.std.proofs.lemmas.Bool.{eqb-true, eq-eqb, false≢true, true≢false, and_parts, both_ways, cases_lt, cond_both, false_from_ne_true}
 use Rattle.qea.specs.declared.automaton.Transition.{Transition}
 use Rattle.qea.specs.declared.configuration.Configuration.{Configuration}
 use Rattle.qea.specs.declared.term.Term.{Term}
 use Rattle.qea.specs.declared.term.Term.TheVariants.{Variable}
-use Rattle.qea.specs.Lists.{every, any, In, gathered, firsts}
-use Rattle.qea.specs.Values.{same}
+use Rattle.qea.specs.Lists.{In, firsts}
+use Rattle.std.specs.Ordering.{int_eq}
 use Rattle.qea.specs.Events.{Event}
 use Rattle.qea.specs.Meaning.{Meaning, Guard, Action, Agree, guard_says, guard_reads, action_says, action_reads, action_writes, guard_reads_at, action_reads_at, holds, written, acted}
 use Rattle.qea.specs.Automaton.{Pattern, Automaton}
-use Rattle.qea.specs.Matching.{meetings, met, allows, consistent, matches, Sight, sight_at, sights_from, sights_through, sights}
+use Rattle.qea.specs.Matching.{meetings, met, consistent, matches, Sight, sight_at, sights_from, sights_through, sights}
 use Rattle.qea.specs.Domains.{domain, domains}
 use Rattle.qea.specs.Bindings.{Binding, pick, known, without_new}
 use Rattle.qea.specs.Slices.{gives, touches, touched, slice}
@@ -19,29 +20,34 @@ use Rattle.qea.specs.Steps.{value_or_zero, row, loaded, arrived, tries, settled,
 use Rattle.qea.specs.WellFormed.{WellFormed}
 use Rattle.qea.specs.Laws.{LateSlice, LateConfigurations}
 use Rattle.qea.proofs.Sameness.{same_is, same_self}
-use Rattle.qea.proofs.Members.{not_true_false, some_same, nth_in, in_right, in_left, in_map, in_gathered, in_kept_by, of_kept_by, every_at, any_at}
-use Rattle.qea.proofs.Congruences.{every_alike, any_alike, gathered_alike, kept_by_alike, folded_alike}
+use Rattle.std.proofs.lemmas.Option.{same_Some}
+use Rattle.qea.proofs.Members.{nth_in, in_right, in_left, in_map, in_flat_map, in_kept_by, of_kept_by, every_at, any_at}
+use Rattle.qea.proofs.Congruences.{every_alike, any_alike, flat_map_alike, kept_by_alike, folded_alike}
 use Rattle.qea.proofs.Firsts.{firsts_have}
 use Rattle.qea.proofs.Growth.{domains_at}
 
+-- r is o, or nothing where o is a value that the domain lacks
+abbrev Lacks : List ℤ → Option ℤ → Option ℤ → Type 0
+Lacks d o r = (r ≡ o) ⊎ ((v : ℤ) × (o ≡ Some v) × (r ≡ None) × (In v d → ⊥))
+
 -- p is b, but gives nothing at some variables whose domains lack what b gives there
-abbrev pub Before : Automaton → List Event → Binding → Binding → Type 0
-Before a h b p = (k : ℕ) → (pick p k ≡ pick b k) ⊎ ((v : ℤ) × (pick b k ≡ Some v) × (pick p k ≡ None) × (In v (domain a h k) → ⊥))
+abbrev Before : Automaton → List Event → Binding → Binding → Type 0
+Before a h b p = (k : ℕ) → Lacks (domain a h k) (pick b k) (pick p k)
 
 -- what a variable meets in a granted event is in its domain
 sight_in_domain : (a : Automaton) (h : List Event) (p : Pattern) (e : Event) (s : Sight) → In p a.patterns → In e h → In s (sights_through e p) → In s.value (domain a h s.variable)
 sight_in_domain a h p e s mp me ms =
-    firsts_have same same_is _ s.value
+    firsts_have int_eq same_is _ s.value
     (in_map (λ x. x.value) s _
-    (in_kept_by (λ x. eqb x.variable s.variable) s (gathered (sights a) h)
-    (in_gathered (sights a) e s h me (in_gathered (sights_through e) p s a.patterns mp ms))
+    (in_kept_by (λ x. eqb x.variable s.variable) s (flat_map (sights a) h)
+    (in_flat_map (sights a) e s h me (in_flat_map (sights_through e) p s a.patterns mp ms))
     (eq-eqb s.variable s.variable refl)))
 
-gives_alike : (d : List ℤ) (o r : Option ℤ) (v : ℤ) → In v d → (r ≡ o) ⊎ ((w : ℤ) × (o ≡ Some w) × (r ≡ None) × (In w d → ⊥)) → gives o v ≡ gives r v
+gives_alike : (d : List ℤ) (o r : Option ℤ) (v : ℤ) → In v d → Lacks d o r → gives o v ≡ gives r v
 gives_alike d o r v m (inl e) = ap (λ (x : Option ℤ). gives x v) (sym e)
 gives_alike d o r v m (inr f) =
     ap (λ (x : Option ℤ). gives x v) f.1
-    ∙ not_true_false (same f.0 v) (λ t. f.3 (subst (λ (x : ℤ). In x d) (sym (same_is f.0 v t)) m))
+    ∙ false_from_ne_true (int_eq f.0 v) (λ t. f.3 (subst (λ (x : ℤ). In x d) (sym (same_is f.0 v t)) m))
     ∙ sym (ap (λ (x : Option ℤ). gives x v) f.2)
 
 module _ (a : Automaton) (h : List Event) (b p : Binding) (bf : Before a h b p) where
@@ -51,11 +57,8 @@ module _ (a : Automaton) (h : List Event) (b p : Binding) (bf : Before a h b p) 
       (every_alike _ _ (sights_through e q)
       (λ s ms. gives_alike (domain a h s.variable) (pick b s.variable) (pick p s.variable) s.value (sight_in_domain a h q e s mq me ms) (bf s.variable)))
 
-  touched_alike : (e : Event) → In e h → touched a b e ≡ touched a p e
-  touched_alike e me = any_alike (λ q. touches b q e) (λ q. touches p q e) a.patterns (λ q mq. touches_alike q e mq me)
-
   slice_alike : slice a b h ≡ slice a p h
-  slice_alike = kept_by_alike (touched a b) (touched a p) h (λ e me. touched_alike e me)
+  slice_alike = kept_by_alike (touched a b) (touched a p) h (λ e me. any_alike (λ q. touches b q e) (λ q. touches p q e) a.patterns (λ q mq. touches_alike q e mq me))
 
 -- guards and actions
 
@@ -80,15 +83,9 @@ action_says_agree None r s h = refl
 action_says_agree (Some x) r s h = x.agrees r s h
 
 -- what an action writes among the registers does not depend on the variables
-registers_written : (b : Binding) (rs : List ℤ) (k : ℕ) (v : ℤ) → drop 4 (set (row b rs) (4 + k) v) ≡ set rs k v
-registers_written b rs k v = ap (λ (n : ℕ). drop 4 (set (row b rs) n v)) at
-  where
-    at : 4 + k ≡ suc (suc (suc (suc k)))
-    at = omega arith
-
 arrived_alike : (q k : ℕ) (b p : Binding) (rs : List ℤ) (o : Option ℤ) → arrived q (written (row b rs) (4 + k) o) ≡ arrived q (written (row p rs) (4 + k) o)
 arrived_alike q k b p rs None = refl
-arrived_alike q k b p rs (Some v) = ap (λ (r : List ℤ). Some (record { state = q; registers = r })) (registers_written b rs k v ∙ sym (registers_written p rs k v))
+arrived_alike q k b p rs (Some v) = ap (λ (r : List ℤ). Some (record { state = q; registers = r })) (drop-set-add 4 (row b rs) k v ∙ sym (drop-set-add 4 (row p rs) k v))
 
 acted_agree : (m : Meaning) (n q : ℕ) (b p : Binding) (rs : List ℤ) → Agree (action_reads_at m n) (row b rs) (row p rs) → arrived q (acted m n (row b rs)) ≡ arrived q (acted m n (row p rs))
 acted_agree m zero q b p rs h = refl
@@ -108,11 +105,7 @@ sight_from i k (t ∷ ts) (v ∷ vs) (inr m) n =
     (r.0, in_right r.0 (sight_at i t v) (sights_from (suc i) (meetings ts vs)) r.1, r.2)
 
 matches_long : (q : Pattern) (e : Event) → matches q e ≡ true → length q.terms ≡ length e.values
-matches_long q e t =
-    let numbers = eqb q.event e.number in
-    let counts = eqb (length q.terms) (length e.values) in
-    let constants = every (λ x. allows x.term x.value) (met q e) in
-    eqb-true (length q.terms) (length e.values) (and_parts numbers counts (and_parts (numbers && counts) constants (and_parts (numbers && counts && constants) (consistent (met q e)) t).0).0).1
+matches_long q e t = eqb-true (length q.terms) (length e.values) (and_parts (eqb q.event e.number) _ (and_parts (eqb q.event e.number && eqb (length q.terms) (length e.values)) _ (and_parts _ (consistent (met q e)) t).0).0).1
 
 sight_of : (k : ℕ) (q : Pattern) (e : Event) → matches q e ≡ true → In (Variable k) q.terms → (s : Sight) × In s (sights_through e q) × (s.variable ≡ k)
 sight_of k q e t m =
@@ -143,7 +136,7 @@ taken_alike true false false g k x y z e i j = refl
 reads_own : (a : Automaton) (m : Meaning) → WellFormed a m → (t : Transition) (q : Pattern) → In t a.transitions → slice_get a.patterns t.pattern ≡ Some q → (i : ℕ) → i < 4 → (guard_reads_at m t.guard i ≡ true) ⊎ (action_reads_at m t.action i ≡ true) → In (Variable i) q.terms
 reads_own a m wf t q mt eq i l r =
     let f = (wf.transitions t mt).pattern in
-    subst (λ (p : Pattern). In (Variable i) p.terms) (some_same f.0 q (sym f.1 ∙ eq)) (f.2 i l r)
+    subst (λ (p : Pattern). In (Variable i) p.terms) (same_Some f.0 q (sym f.1 ∙ eq)) (f.2 i l r)
 
 module _ (a : Automaton) (m : Meaning) (wf : WellFormed a m) (h : List Event) (b p : Binding) (bf : Before a h b p) where
   tries_alike : (e : Event) → In e h → (g : Configuration) (t : Transition) → In t a.transitions → (o : Option Pattern) → slice_get a.patterns t.pattern ≡ o → tries m b e g t o ≡ tries m p e g t o
@@ -156,8 +149,8 @@ module _ (a : Automaton) (m : Meaning) (wf : WellFormed a m) (h : List Event) (b
 
   step_alike : (e : Event) → In e h → (gs : List Configuration) → step a m b gs e ≡ step a m p gs e
   step_alike e me gs =
-      ap (firsts same_configuration) (gathered_alike _ _ gs
-      (λ g _. ap (settled a g) (gathered_alike _ _ a.transitions (λ t mt. tries_alike e me g t mt (slice_get a.patterns t.pattern) refl))))
+      ap (firsts same_configuration) (flat_map_alike _ _ gs
+      (λ g _. ap (settled a g) (flat_map_alike _ _ a.transitions (λ t mt. tries_alike e me g t mt (slice_get a.patterns t.pattern) refl))))
 
   configurations_alike : configurations a m b h ≡ configurations a m p h
   configurations_alike =
@@ -171,38 +164,25 @@ known_nothing None = refl
 known_nothing (Some v) = refl
 
 pick_without : (ds : List (List ℤ)) (b : Binding) (k : ℕ) → pick (without_new ds b) k ≡ known (get_or ds k []) (pick b k)
-pick_without [] [] k = refl
-pick_without [] (o ∷ b) k = sym (known_nothing (pick (o ∷ b) k))
+pick_without [] b k = sym (known_nothing (pick b k))
 pick_without (d ∷ ds) [] k = refl
 pick_without (d ∷ ds) (o ∷ b) zero = refl
 pick_without (d ∷ ds) (o ∷ b) (suc k) = pick_without ds b k
 
-pick_past : (b : Binding) (k : ℕ) → length b ≤ k → pick b k ≡ None
-pick_past [] k l = refl
-pick_past (o ∷ b) zero l = absurd (not-suc-le-zero l)
-pick_past (o ∷ b) (suc k) l = pick_past b k (le_of_suc-le-suc l)
-
-known_or_new : (d : List ℤ) (o : Option ℤ) → (known d o ≡ o) ⊎ ((v : ℤ) × (o ≡ Some v) × (known d o ≡ None) × (In v d → ⊥))
+known_or_new : (d : List ℤ) (o : Option ℤ) → Lacks d o (known d o)
 known_or_new d None = inl refl
-known_or_new d (Some v) = go (any (λ w. same w v) d) refl
-  where
-    go : (t : Bool) → any (λ w. same w v) d ≡ t → (cond t (Some v) None ≡ Some v) ⊎ ((u : ℤ) × (Some v ≡ Some u) × (cond t (Some v) None ≡ None) × (In u d → ⊥))
-    go true e = inl refl
-    go false e = inr (v, refl, refl, λ m. both_ways (any (λ w. same w v) d) e (any_at (λ w. same w v) d v m (same_self v)))
+known_or_new d (Some v) =
+    let there = list_any (λ w. int_eq w v) d in
+    cond_both there (Some v) None (Lacks d (Some v)) (λ _. inl refl) (λ e. inr (v, refl, refl, λ m. both_ways there e (any_at (λ w. int_eq w v) d v m (same_self v))))
 
 before_without : (a : Automaton) (h : List Event) (b : Binding) → length b ≡ length a.quantifiers → Before a h b (without_new (domains a h) b)
-before_without a h b n k = ⊎_elim within past (cases_lt k (length b))
+before_without a h b n k = subst (Lacks (domain a h k) (pick b k)) (sym (pick_without (domains a h) b k)) (⊎_elim within past (cases_lt k (length b)))
   where
-    is : Option ℤ → Type 0
-    is o = (o ≡ pick b k) ⊎ ((v : ℤ) × (pick b k ≡ Some v) × (o ≡ None) × (In v (domain a h k) → ⊥))
+    within : k < length b → Lacks (domain a h k) (pick b k) (known (get_or (domains a h) k []) (pick b k))
+    within l = subst (λ (d : List ℤ). Lacks (domain a h k) (pick b k) (known d (pick b k))) (sym (domains_at a h k (omega arith))) (known_or_new (domain a h k) (pick b k))
 
-    within : k < length b → is (pick (without_new (domains a h) b) k)
-    within l =
-        let l' : k < length a.quantifiers = omega arith in
-        subst is (sym (pick_without (domains a h) b k ∙ ap (λ (d : List ℤ). known d (pick b k)) (domains_at a h k l'))) (known_or_new (domain a h k) (pick b k))
-
-    past : length b ≤ k → is (pick (without_new (domains a h) b) k)
-    past l = inl (pick_without (domains a h) b k ∙ ap (known (get_or (domains a h) k [])) (pick_past b k l) ∙ sym (pick_past b k l))
+    past : length b ≤ k → Lacks (domain a h k) (pick b k) (known (get_or (domains a h) k []) (pick b k))
+    past l = inl (ap (known (get_or (domains a h) k [])) (get_or_past b k None l) ∙ sym (get_or_past b k None l))
 
 pub late_slice : LateSlice
 late_slice a h b n = slice_alike a h b (without_new (domains a h) b) (before_without a h b n)

@@ -1,10 +1,8 @@
 pub mod Sameness
-pub mod Searching
 pub mod Growing
 pub mod Admitting
-pub mod Everys
 pub mod Members
-pub mod Aparts
+pub mod Distincts
 pub mod Congruences
 pub mod Firsts
 pub mod Growth

@@ -1,24 +1,22 @@
--- The test `same` decides equality of numbers.
-use Rattle.std.proofs.Common.{◌≡◌, Bool, true, false, ℤ, pos, negsuc, refl, ap}
-use Rattle.std.proofs.lemmas.Bool.{eqb-true, eq-eqb, false≢true}
-use Rattle.qea.specs.Values.{same}
+-- The library's test of equal numbers, both ways.
+use Rattle.std.proofs.Common.{◌≡◌, Bool, true, false, ◌⊎◌, ℤ, ◌≢◌, refl, inl, inr}
+use Rattle.std.proofs.lemmas.Bool.{both_ways}
+use Rattle.std.proofs.lemmas.Bool.Decides.{Decides-int_eq}
+use Rattle.std.specs.Ordering.{int_eq}
 
-pub same_is : (x y : ℤ) → same x y ≡ true → x ≡ y
-same_is (pos a) (pos b) t = ap pos (eqb-true a b t)
-same_is (pos a) (negsuc b) t = absurd (false≢true t)
-same_is (negsuc a) (pos b) t = absurd (false≢true t)
-same_is (negsuc a) (negsuc b) t = ap negsuc (eqb-true a b t)
+pub same_is : (x y : ℤ) → int_eq x y ≡ true → x ≡ y
+same_is x y = (Decides-int_eq x y).0
 
-pub same_self : (x : ℤ) → same x x ≡ true
-same_self (pos a) = eq-eqb a a refl
-same_self (negsuc a) = eq-eqb a a refl
+pub same_of : (x y : ℤ) → x ≡ y → int_eq x y ≡ true
+same_of x y = (Decides-int_eq x y).1
 
-pub same_of : (x y : ℤ) → x ≡ y → same x y ≡ true
-same_of x y e = rw e (same_self y)
+pub same_self : (x : ℤ) → int_eq x x ≡ true
+same_self x = same_of x x refl
 
-pub same_not : (x y : ℤ) → (x ≡ y → ⊥) → same x y ≡ false
-same_not x y differs = go (same x y) refl
+-- the test's two answers, for grind
+pub same_tells : (x y : ℤ) → ((int_eq x y ≡ true) × (x ≡ y)) ⊎ ((int_eq x y ≡ false) × (x ≢ y))
+same_tells x y = go (int_eq x y) refl
   where
-    go : (t : Bool) → same x y ≡ t → t ≡ false
-    go true e = absurd (differs (same_is x y e))
-    go false e = refl
+    go : (t : Bool) → int_eq x y ≡ t → ((int_eq x y ≡ true) × (x ≡ y)) ⊎ ((int_eq x y ≡ false) × (x ≢ y))
+    go true e = inl (e, same_is x y e)
+    go false e = inr (e, λ is. both_ways (int_eq x y) e (same_of x y is))

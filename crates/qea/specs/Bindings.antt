@@ -1,8 +1,8 @@
 -- Bindings of the domains, and their numbers.
 use Rattle.std.specs.Prelude.{ℕ, zero, suc, ◌+◌, ◌*◌, ◌/◌, ◌%◌, cond, List, [], ◌∷◌, map, length, ℤ, Some, None, Option, slice_index_or}
-use Rattle.std.specs.List.{slice_get}
-use Rattle.qea.specs.Lists.{any, In, gathered}
-use Rattle.qea.specs.Values.{same}
+use Rattle.std.specs.List.{slice_get, list_any, flat_map}
+use Rattle.qea.specs.Lists.{In}
+use Rattle.std.specs.Ordering.{int_eq}
 use Rattle.qea.specs.Domains.{position_of}
 
 -- nothing or a value for each variable that has a quantifier
@@ -39,11 +39,11 @@ entries d = None ∷ map Some d
 
 abbrev pub bindings : List (List ℤ) → List Binding
 bindings [] = [] ∷ []
-bindings (d ∷ ds) = gathered (λ rest. map (λ o. o ∷ rest) (entries d)) (bindings ds)
+bindings (d ∷ ds) = flat_map (λ rest. map (λ o. o ∷ rest) (entries d)) (bindings ds)
 
 abbrev pub total_bindings : List (List ℤ) → List Binding
 total_bindings [] = [] ∷ []
-total_bindings (d ∷ ds) = gathered (λ rest. map (λ v. Some v ∷ rest) d) (total_bindings ds)
+total_bindings (d ∷ ds) = flat_map (λ rest. map (λ v. Some v ∷ rest) d) (total_bindings ds)
 
 -- how many bindings there are: the product of all (1 + domain size)
 abbrev pub product : List (List ℤ) → ℕ
@@ -76,7 +76,7 @@ binding_at (d ∷ ds) n = entry_at d (n % suc (length d)) ∷ binding_at ds (n /
 -- A binding is new where it gives a value that the domain lacked before. Without its new values it gives nothing there.
 abbrev pub known : List ℤ → Option ℤ → Option ℤ
 known d None = None
-known d (Some v) = cond (any (λ w. same w v) d) (Some v) None
+known d (Some v) = cond (list_any (λ w. int_eq w v) d) (Some v) None
 
 abbrev pub without_new : List (List ℤ) → Binding → Binding
 without_new [] b = []

@@ -1,12 +1,12 @@
 -- What nothing later can change: lost and won states and bindings, and the verdict with 'for good'.
 use Rattle.std.specs.Prelude.{◌≡◌, ℕ, zero, suc, Bool, true, false, not, ◌&&◌, ◌||◌, List, length, filter, ◌==◌}
-use Rattle.std.specs.List.{slice_get}
+use Rattle.std.specs.List.{slice_get, list_all, list_any}
 use Rattle.qea.specs.declared.automaton.Kind.{Kind}
 use Rattle.qea.specs.declared.automaton.Kind.TheVariants.{ForAll, Exists}
 use Rattle.qea.specs.declared.automaton.Quantifier.{Quantifier}
 use Rattle.qea.specs.declared.automaton.Transition.{Transition}
 use Rattle.qea.specs.declared.configuration.Configuration.{Configuration}
-use Rattle.qea.specs.Lists.{every, any, In}
+use Rattle.qea.specs.Lists.{In}
 use Rattle.qea.specs.Events.{Event}
 use Rattle.qea.specs.Meaning.{Meaning}
 use Rattle.qea.specs.Automaton.{Automaton}
@@ -61,7 +61,7 @@ AcceptsForGood a m h = AllAre Exists a.quantifiers × ((b : Binding) × PassingT
 -- a chain of at most n transitions leads to a state that passes
 abbrev pub leads_within : Automaton → (ℕ → Bool) → ℕ → ℕ → Bool
 leads_within a test zero q = test q
-leads_within a test (suc n) q = leads_within a test n q || any (λ t. (t.from == q) && leads_within a test n t.to) a.transitions
+leads_within a test (suc n) q = leads_within a test n q || list_any (λ t. (t.from == q) && leads_within a test n t.to) a.transitions
 
 -- as many as there are transitions suffice
 abbrev pub leads : Automaton → (ℕ → Bool) → ℕ → Bool
@@ -74,10 +74,10 @@ abbrev pub won : Automaton → ℕ → Bool
 won a q = not (leads a (λ r. not (safe_state a r)) q)
 
 abbrev pub lost_binding : Automaton → List Configuration → Bool
-lost_binding a gs = every (λ g. lost a g.state) gs
+lost_binding a gs = list_all (λ g. lost a g.state) gs
 
 abbrev pub won_binding : Automaton → List Configuration → Bool
-won_binding a gs = any (λ g. won a g.state) gs
+won_binding a gs = list_any (λ g. won a g.state) gs
 
 abbrev pub is_kind : Kind → Kind → Bool
 is_kind ForAll ForAll = true
@@ -86,16 +86,16 @@ is_kind Exists ForAll = false
 is_kind Exists Exists = true
 
 abbrev pub all_are : Kind → List Quantifier → Bool
-all_are k qs = every (λ q. is_kind q.kind k) qs
+all_are k qs = list_all (λ q. is_kind q.kind k) qs
 
 abbrev pub passing_totals : Automaton → Meaning → List Event → List Binding
-passing_totals a m h = filter (λ b. every (λ q. passes m q b) a.quantifiers) (total_bindings (domains a h))
+passing_totals a m h = filter (λ b. list_all (λ q. passes m q b) a.quantifiers) (total_bindings (domains a h))
 
 abbrev pub rejects_for_good : Automaton → Meaning → List Event → Bool
-rejects_for_good a m h = all_are ForAll a.quantifiers && any (λ b. lost_binding a (configurations a m b h)) (passing_totals a m h)
+rejects_for_good a m h = all_are ForAll a.quantifiers && list_any (λ b. lost_binding a (configurations a m b h)) (passing_totals a m h)
 
 abbrev pub accepts_for_good : Automaton → Meaning → List Event → Bool
-accepts_for_good a m h = all_are Exists a.quantifiers && any (λ b. won_binding a (configurations a m b h)) (passing_totals a m h)
+accepts_for_good a m h = all_are Exists a.quantifiers && list_any (λ b. won_binding a (configurations a m b h)) (passing_totals a m h)
 
 -- What a verdict tells: accepts or rejects, whether for good, and how many total bindings accept.
 pub record Verdict : Type 0 where

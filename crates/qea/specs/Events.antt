@@ -2,7 +2,7 @@
 use Rattle.std.specs.Prelude.{ℕ, cond, not, List, length, ℤ, Some, None, Ok, Err, Option, Result, nat_lt}
 use Rattle.qea.specs.declared.fault.Description.{Description}
 use Rattle.qea.specs.Limits.{max_terms}
-use Rattle.qea.specs.Lists.{first_from}
+use Rattle.std.specs.List.{position_from}
 use Rattle.qea.specs.Values.{is_value}
 use Rattle.qea.specs.Faults.{in_run}
 
@@ -13,7 +13,7 @@ pub record Event : Type 0 where
 
 -- the place of refusal 9: 4 if there are more than 4 values, else the position of the first that is out of range
 abbrev pub bad_event_at : List ℤ → Option ℕ
-bad_event_at vs = cond (nat_lt max_terms (length vs)) (Some max_terms) (first_from (λ v. not (is_value v)) 0 vs)
+bad_event_at vs = cond (nat_lt max_terms (length vs)) (Some max_terms) (position_from (λ v. not (is_value v)) 0 vs)
 
 abbrev pub event_unless : Option ℕ → ℕ → List ℤ → Result Event Description
 event_unless None n vs = Ok (record { number = n; values = vs })

@@ -4,7 +4,8 @@ use Rattle.std.specs.Prelude.{ℕ, Bool, cond, ◌&&◌, ◌||◌, List, [], ◌
 use Rattle.qea.specs.declared.automaton.Kind.TheVariants.{ForAll, Exists}
 use Rattle.qea.specs.declared.configuration.Configuration.{Configuration}
 use Rattle.qea.specs.declared.fault.Description.{Description}
-use Rattle.qea.specs.Lists.{every, any, first_some}
+use Rattle.std.specs.List.{list_all, list_any}
+use Rattle.qea.specs.Lists.{first_some}
 use Rattle.qea.specs.Faults.{in_run}
 use Rattle.qea.specs.Events.{Event, bad_event_at}
 use Rattle.qea.specs.Meaning.{Meaning}
@@ -59,7 +60,7 @@ refusal_grown a m capacity old lists e (Err position) = Some (in_run 10 position
 refusal_grown a m capacity old lists e (Ok new) =
     refused_at 11 (at_zero (store_full capacity new)) (
     refused_at 12 (first_some (λ b. out_of_range_at a m e b (lists (without_new old b))) (bindings new)) (
-    refused_at 13 (at_zero (any (λ b. list_full (next_lists a m e old lists b)) (bindings new))) None))
+    refused_at 13 (at_zero (list_any (λ b. list_full (next_lists a m e old lists b)) (bindings new))) None))
 
 -- the refusal of an event, from the domains and the lists before it
 abbrev pub refusal_from : Automaton → Meaning → ℕ → List (List ℤ) → (Binding → List Configuration) → Event → Option Description
@@ -72,8 +73,8 @@ count_from a ds lists = length (filter (λ b. accepts a (lists b)) (total_bindin
 
 abbrev pub for_good_from : Automaton → Meaning → List (List ℤ) → (Binding → List Configuration) → Bool
 for_good_from a m ds lists =
-    let passing = filter (λ b. every (λ q. passes m q b) a.quantifiers) (total_bindings ds) in
-    all_are ForAll a.quantifiers && any (λ b. lost_binding a (lists b)) passing || all_are Exists a.quantifiers && any (λ b. won_binding a (lists b)) passing
+    let passing = filter (λ b. list_all (λ q. passes m q b) a.quantifiers) (total_bindings ds) in
+    all_are ForAll a.quantifiers && list_any (λ b. lost_binding a (lists b)) passing || all_are Exists a.quantifiers && list_any (λ b. won_binding a (lists b)) passing
 
 -- the verdict, from the domains and the lists
 abbrev pub verdict_from : Automaton → Meaning → List (List ℤ) → (Binding → List Configuration) → Verdict

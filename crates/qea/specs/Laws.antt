@@ -1,9 +1,10 @@
 -- The laws of the semantics, on which runs rest. Each is the contract of a function in src/laws.rt.
 use Rattle.std.specs.Prelude.{◌≡◌, ℕ, ◌<◌, ◌≤◌, true, false, cond, ◌⊎◌, List, [], ◌∷◌, ◌++◌, map, length, ℤ, is_some, Some, None, Ok, Err, Decides, Option, Result, nat_lt}
-use Rattle.std.specs.List.{range_with_len}
+use Rattle.std.specs.List.{range_with_len, list_any, flat_map}
 use Rattle.qea.specs.declared.fault.Description.{Description}
 use Rattle.qea.specs.Limits.{max_domain, max_configurations}
-use Rattle.qea.specs.Lists.{any, In, Distinct, gathered, missing}
+use Rattle.qea.specs.Lists.{In, Distinct}
+use Rattle.std.specs.Option.{is_none}
 use Rattle.qea.specs.Events.{Event, bad_event_at}
 use Rattle.qea.specs.Meaning.{Meaning}
 use Rattle.qea.specs.Automaton.{Automaton}
@@ -114,10 +115,10 @@ abbrev pub first_condition : Automaton → Meaning → ℕ → List Event → Ev
 first_condition a m capacity h e =
     let new = domains a (h ++ e ∷ []) in
     cond (is_some (bad_event_at e.values)) (Some 9) (
-    cond (any (λ d. nat_lt max_domain (length d)) new) (Some 10) (
+    cond (list_any (λ d. nat_lt max_domain (length d)) new) (Some 10) (
     cond (store_full capacity new) (Some 11) (
-    cond (any (λ b. any (λ g. any missing (outcomes a m b e g)) (configurations a m b h)) (bindings new)) (Some 12) (
-    cond (any (λ b. list_full (configurations a m b (h ++ e ∷ []))) (bindings new)) (Some 13) None))))
+    cond (list_any (λ b. list_any (λ g. list_any is_none (outcomes a m b e g)) (configurations a m b h)) (bindings new)) (Some 12) (
+    cond (list_any (λ b. list_full (configurations a m b (h ++ e ∷ []))) (bindings new)) (Some 13) None))))
 
 abbrev pub number_of : Option Description → Option ℕ
 number_of None = None
@@ -177,7 +178,7 @@ domains_or_position (Some position) ds = Err position
 
 -- The incremental description agrees with the one over all events, at a list longer by one.
 pub record Incremental (a : Automaton) (m : Meaning) (capacity : ℕ) (h : List Event) (e : Event) (before : Held) : Type 0 where
-  pub grown : grown_by (domains a h) (sights a e) ≡ domains_or_position (overfull_at (gathered (sights a) h) (sights a e)) (domains a (h ++ e ∷ []))
+  pub grown : grown_by (domains a h) (sights a e) ≡ domains_or_position (overfull_at (flat_map (sights a) h) (sights a e)) (domains a (h ++ e ∷ []))
   pub held : (after : Held) → NextHeld a m e (domains a h) (domains a (h ++ e ∷ [])) before after → Holds a m (h ++ e ∷ []) after
   pub refused : refusal_from a m capacity (domains a h) (lists_in before) e ≡ refusal a m capacity h e
   pub told : verdict_from a m (domains a h) (lists_in before) ≡ verdict a m h

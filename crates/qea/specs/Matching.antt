@@ -2,8 +2,8 @@
 use Rattle.std.specs.Prelude.{ℕ, suc, Bool, true, false, cond, ◌&&◌, List, [], ◌∷◌, ◌++◌, length, ℤ, ◌==◌}
 use Rattle.qea.specs.declared.term.Term.{Term}
 use Rattle.qea.specs.declared.term.Term.TheVariants.{Blank, Variable, Register, Constant}
-use Rattle.qea.specs.Lists.{every, gathered}
-use Rattle.qea.specs.Values.{same}
+use Rattle.std.specs.List.{list_all, flat_map}
+use Rattle.std.specs.Ordering.{int_eq}
 use Rattle.qea.specs.Events.{Event}
 use Rattle.qea.specs.Automaton.{Pattern, Automaton}
 
@@ -26,7 +26,7 @@ abbrev pub allows : Term → ℤ → Bool
 allows Blank v = true
 allows (Variable k) v = true
 allows (Register k) v = true
-allows (Constant c) v = same c v
+allows (Constant c) v = int_eq c v
 
 abbrev pub is_variable : ℕ → Term → Bool
 is_variable k Blank = false
@@ -50,11 +50,11 @@ same_name (Constant c) t = false
 -- a variable or register that stands twice meets equal values
 abbrev pub consistent : List Meeting → Bool
 consistent [] = true
-consistent (x ∷ xs) = every (λ y. cond (same_name x.term y.term) (same x.value y.value) true) xs && consistent xs
+consistent (x ∷ xs) = list_all (λ y. cond (same_name x.term y.term) (int_eq x.value y.value) true) xs && consistent xs
 
 -- The numbers agree, the counts agree, constants are equal, and a variable or register that stands twice meets equal values.
 abbrev pub matches : Pattern → Event → Bool
-matches p e = p.event == e.number && length p.terms == length e.values && every (λ x. allows x.term x.value) (met p e) && consistent (met p e)
+matches p e = p.event == e.number && length p.terms == length e.values && list_all (λ x. allows x.term x.value) (met p e) && consistent (met p e)
 
 -- a variable meets a value, at a position of the event
 pub record Sight : Type 0 where
@@ -79,4 +79,4 @@ sights_through e p = cond (matches p e) (sights_from 0 (met p e)) []
 
 -- all sights in an event, by pattern and position
 abbrev pub sights : Automaton → Event → List Sight
-sights a e = gathered (sights_through e) a.patterns
+sights a e = flat_map (sights_through e) a.patterns

@@ -1,10 +1,11 @@
 -- Which offered events are refused, with which number and place: from the rule, the theory's meaning, the store's capacity and the granted events alone.
 use Rattle.std.specs.Prelude.{◌≡◌, ℕ, Bool, cond, List, [], ◌∷◌, ◌++◌, length, ℤ, Some, None, Option, nat_lt}
-use Rattle.std.specs.List.{slice_get}
+use Rattle.std.specs.List.{slice_get, list_any, position_from, flat_map}
 use Rattle.qea.specs.declared.configuration.Configuration.{Configuration}
 use Rattle.qea.specs.declared.fault.Description.{Description}
 use Rattle.qea.specs.Limits.{max_domain, max_configurations}
-use Rattle.qea.specs.Lists.{any, first_from, first_some, gathered, missing}
+use Rattle.qea.specs.Lists.{first_some}
+use Rattle.std.specs.Option.{is_none}
 use Rattle.qea.specs.Faults.{in_run}
 use Rattle.qea.specs.Events.{Event, bad_event_at}
 use Rattle.qea.specs.Meaning.{Meaning}
@@ -25,7 +26,7 @@ store_full capacity ds = nat_lt capacity (product ds)
 
 -- 12: the transition met first whose action is out of range, by configuration and transition
 abbrev pub out_of_range_at : Automaton → Meaning → Event → Binding → List Configuration → Option ℕ
-out_of_range_at a m e b gs = first_some (λ g. first_from (λ t. any missing (tries m b e g t (slice_get a.patterns t.pattern))) 0 a.transitions) gs
+out_of_range_at a m e b gs = first_some (λ g. position_from (λ t. list_any is_none (tries m b e g t (slice_get a.patterns t.pattern))) 0 a.transitions) gs
 
 -- 13: nine configurations or more
 abbrev pub list_full : List Configuration → Bool
@@ -45,10 +46,10 @@ abbrev pub refusal : Automaton → Meaning → ℕ → List Event → Event → 
 refusal a m capacity h e =
     let new = domains a (h ++ e ∷ []) in
     refused_at 9 (bad_event_at e.values) (
-    refused_at 10 (overfull_at (gathered (sights a) h) (sights a e)) (
+    refused_at 10 (overfull_at (flat_map (sights a) h) (sights a e)) (
     refused_at 11 (at_zero (store_full capacity new)) (
     refused_at 12 (first_some (λ b. out_of_range_at a m e b (configurations a m b h)) (bindings new)) (
-    refused_at 13 (at_zero (any (λ b. list_full (configurations a m b (h ++ e ∷ []))) (bindings new))) None))))
+    refused_at 13 (at_zero (list_any (λ b. list_full (configurations a m b (h ++ e ∷ []))) (bindings new))) None))))
 
 -- Each event of the second list is granted in its turn, after those of the first.
 abbrev pub GrantedAfter : Automaton → Meaning → ℕ → List Event → List Event → Type 0

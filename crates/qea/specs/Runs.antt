@@ -1,7 +1,7 @@
 -- A run as a list of calls: which events stand granted since the latest beginning, and what each call answers.
 use Rattle.std.specs.Prelude.{ℕ, Bool, true, false, cond, List, [], ◌∷◌, ◌++◌, Some, None, fold, Option}
 use Rattle.qea.specs.declared.fault.Description.{Description}
-use Rattle.qea.specs.Lists.{any, gathered}
+use Rattle.std.specs.List.{list_any, flat_map}
 use Rattle.qea.specs.Events.{Event}
 use Rattle.qea.specs.Meaning.{Meaning}
 use Rattle.qea.specs.Automaton.{Automaton}
@@ -29,7 +29,7 @@ is_beginning begin_again = true
 -- the calls after the latest beginning: those before it, and it, are passed over
 abbrev pub since_beginning : List Call → List Call
 since_beginning [] = []
-since_beginning (c ∷ calls) = cond (any is_beginning (c ∷ calls)) (since_beginning calls) (c ∷ calls)
+since_beginning (c ∷ calls) = cond (list_any is_beginning (c ∷ calls)) (since_beginning calls) (c ∷ calls)
 
 abbrev pub offered_by : Call → List Event
 offered_by (offer e) = e ∷ []
@@ -47,7 +47,7 @@ granted_of a m capacity h es = fold (λ g e. added_unless (refusal a m capacity 
 
 -- The events granted since the latest beginning.
 abbrev pub events : Automaton → Meaning → ℕ → List Call → List Event
-events a m capacity calls = granted_of a m capacity [] (gathered offered_by (since_beginning calls))
+events a m capacity calls = granted_of a m capacity [] (flat_map offered_by (since_beginning calls))
 
 abbrev pub offer_reply : Option Description → ℕ → Reply
 offer_reply None n = granted n

@@ -1,6 +1,6 @@
 -- Configurations of a binding: how one moves at an event, and the list after all events.
 use Rattle.std.specs.Prelude.{ℕ, Bool, true, false, cond, ◌&&◌, List, [], ◌∷◌, map, drop, ℤ, pos, Some, None, fold, Option, ◌==◌, slice_set}
-use Rattle.std.specs.List.{slice_get}
+use Rattle.std.specs.List.{slice_get, flat_map}
 use Rattle.qea.specs.declared.automaton.Mode.{Mode}
 use Rattle.qea.specs.declared.automaton.Mode.TheVariants.{Skip, Next}
 use Rattle.qea.specs.declared.automaton.State.{State}
@@ -9,8 +9,8 @@ use Rattle.qea.specs.declared.configuration.Configuration.{Configuration}
 use Rattle.qea.specs.declared.term.Term.{Term}
 use Rattle.qea.specs.declared.term.Term.TheVariants.{Blank, Variable, Register, Constant}
 use Rattle.qea.specs.Limits.{max_quantifiers}
-use Rattle.qea.specs.Lists.{gathered, firsts, present}
-use Rattle.qea.specs.Values.{same}
+use Rattle.qea.specs.Lists.{firsts, present}
+use Rattle.std.specs.Ordering.{int_eq}
 use Rattle.qea.specs.Events.{Event}
 use Rattle.qea.specs.Meaning.{Meaning, place, holds, acted}
 use Rattle.qea.specs.Automaton.{Pattern, Automaton}
@@ -55,7 +55,7 @@ tries m b e g t (Some p) =
 
 -- the outcomes of its state's transitions, in order
 abbrev pub outcomes : Automaton → Meaning → Binding → Event → Configuration → List (Option Configuration)
-outcomes a m b e g = gathered (λ t. tries m b e g t (slice_get a.patterns t.pattern)) a.transitions
+outcomes a m b e g = flat_map (λ t. tries m b e g t (slice_get a.patterns t.pattern)) a.transitions
 
 abbrev pub is_skip : Mode → Bool
 is_skip Skip = true
@@ -79,14 +79,14 @@ abbrev pub same_values : List ℤ → List ℤ → Bool
 same_values [] [] = true
 same_values [] (y ∷ ys) = false
 same_values (x ∷ xs) [] = false
-same_values (x ∷ xs) (y ∷ ys) = same x y && same_values xs ys
+same_values (x ∷ xs) (y ∷ ys) = int_eq x y && same_values xs ys
 
 abbrev pub same_configuration : Configuration → Configuration → Bool
 same_configuration f g = f.state == g.state && same_values f.registers g.registers
 
 -- The new list: the results of all configurations in order, later repeats dropped.
 abbrev pub step : Automaton → Meaning → Binding → List Configuration → Event → List Configuration
-step a m b gs e = firsts same_configuration (gathered (λ g. settled a g (outcomes a m b e g)) gs)
+step a m b gs e = firsts same_configuration (flat_map (λ g. settled a g (outcomes a m b e g)) gs)
 
 -- The list of a binding after these events: from its beginning, a step at each event of its slice.
 abbrev pub configurations : Automaton → Meaning → Binding → List Event → List Configuration

@@ -1,11 +1,11 @@
 -- From configurations to acceptance, and the quantifiers over the total bindings.
 use Rattle.std.specs.Prelude.{◌≡◌, ℕ, Bool, true, cond, ◌&&◌, List, [], ◌∷◌, ◌++◌, length, ℤ, pos, Some, filter}
-use Rattle.std.specs.List.{slice_get}
+use Rattle.std.specs.List.{slice_get, list_all, list_any}
 use Rattle.qea.specs.declared.automaton.Kind.{Kind}
 use Rattle.qea.specs.declared.automaton.Kind.TheVariants.{ForAll, Exists}
 use Rattle.qea.specs.declared.automaton.Quantifier.{Quantifier}
 use Rattle.qea.specs.declared.configuration.Configuration.{Configuration}
-use Rattle.qea.specs.Lists.{every, any, In}
+use Rattle.qea.specs.Lists.{In}
 use Rattle.qea.specs.Events.{Event}
 use Rattle.qea.specs.Meaning.{Meaning, holds}
 use Rattle.qea.specs.Automaton.{Automaton}
@@ -18,7 +18,7 @@ abbrev pub final_at : Automaton → Configuration → Bool
 final_at a g = is_final (slice_get a.states g.state)
 
 abbrev pub accepts : Automaton → List Configuration → Bool
-accepts a gs = any (final_at a) gs
+accepts a gs = list_any (final_at a) gs
 
 abbrev pub accepting : Automaton → Meaning → List Event → Binding → Bool
 accepting a m h b = accepts a (configurations a m b h)
@@ -36,8 +36,8 @@ passes m q b = holds m q.guard (row b no_registers)
 
 -- 'For all' holds if the rest holds for each value of the domain that passes the guard, 'exists' if for some such value.
 abbrev pub quantified : Kind → (ℤ → Bool) → (ℤ → Bool) → List ℤ → Bool
-quantified ForAll pass rest d = every (λ v. cond (pass v) (rest v) true) d
-quantified Exists pass rest d = any (λ v. pass v && rest v) d
+quantified ForAll pass rest d = list_all (λ v. cond (pass v) (rest v) true) d
+quantified Exists pass rest d = list_any (λ v. pass v && rest v) d
 
 -- The quantifiers from the outermost inwards; b is what the outer ones have bound, and goal is asked of each total binding.
 abbrev pub judged : Meaning → (Binding → Bool) → List Quantifier → List (List ℤ) → Binding → Bool

@@ -3,7 +3,8 @@ use Rattle.std.specs.Prelude.{◌≡◌, ℕ, ◌<◌, ◌≤◌, Bool, true, fa
 use Rattle.std.proofs.Common.{ap₂, subst, ⊎_elim, arith, lit<}
 use Rattle.std.proofs.lemmas.Bool.{false≢true, or_cases, or_left, or_right, eq-eqb, eqb-true}
 use Rattle.qea.specs.Limits.{places, registers, max_guards, max_actions}
-use Rattle.qea.specs.Values.{is_value, same}
+use Rattle.std.specs.Ordering.{int_eq}
+use Rattle.qea.specs.Values.{is_value}
 use Rattle.qea.specs.Meaning.{place, Agree, Guard, Action, Meaning}
 
 abbrev pub one_of : ℕ → ℕ → ℕ → Bool
@@ -81,4 +82,4 @@ distance_theory = theory
 
 -- Guard 1: variable 0 is not 0.
 abbrev pub nonzero_theory : Meaning
-nonzero_theory = theory (Some (guard_on 0 0 (lit< tt) (lit< tt) (λ x y. not (same x (pos 0))))) None
+nonzero_theory = theory (Some (guard_on 0 0 (lit< tt) (lit< tt) (λ x y. not (int_eq x (pos 0))))) None

@@ -5,6 +5,9 @@ ghost use Rattle.qea.specs.Faults.{in_text, in_row, in_run, reading_fault, table
 
 use crate::fault::{Description, Layer, Place, ReadingFault, RowKind, RunFault, TableFault};
 
+// Three methods of one form: a trait over them would be one name more to import, and `From` would promise a relation where these
+// promise an equation.
+
 impl ReadingFault {
     pub fn describe(self) -> Description
         ensures { result ≡ reading_fault self }

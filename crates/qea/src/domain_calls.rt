@@ -9,6 +9,7 @@ use crate::domain::Domain;
 use bounded::BoundedList;
 
 impl Domain {
+    // No value yet. The name says it; `Default` beside it would be a second name.
     pub fn empty() -> Domain
         ensures { values_of result ≡ [] }
     {
@@ -28,28 +29,18 @@ impl Domain {
     pub fn position(&self, value: i64) -> Option<usize>
         ensures { result ≡ position_of (values_of self.now) value }
     {
-        let values = self.values();
-        for i in 0..values.len() {
-            if values[i] == value {
-                return Some(i);
-            }
-        }
-        None
+        self.values().iter().position(|other| *other == value)
     }
 
     // The domain with the value in it, or none if there is no room for it.
     pub fn with(self, value: i64) -> Option<Domain>
         ensures { option_map values_of result ≡ grown (values_of self) value }
     {
-        match self.position(value) {
-            Some(_) => Some(self),
-            None => {
-                let mut values = self.values;
-                match values.push(value) {
-                    Some(_) => Some(Domain { values }),
-                    None => None,
-                }
-            }
+        if self.values().contains(&value) {
+            return Some(self);
         }
+        let mut values = self.values;
+        values.push(value)?;
+        Some(Domain { values })
     }
 }

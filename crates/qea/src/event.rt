@@ -2,7 +2,7 @@
 
 ghost use Rattle.std.specs.Prelude.{◌≡◌, true};
 ghost use Rattle.bounded.specs.Items.{items};
-ghost use Rattle.qea.specs.Lists.{every};
+ghost use Rattle.std.specs.List.{list_all};
 ghost use Rattle.qea.specs.Values.{is_value};
 
 use crate::limits::MAX_TERMS;
@@ -13,5 +13,5 @@ use bounded::BoundedList;
 pub struct Event {
     pub number: u8,
     pub values: BoundedList<i64, MAX_TERMS>,
-    ghost ranged: { every is_value (items values) ≡ true },
+    ghost ranged: { list_all is_value (items values) ≡ true },
 }

@@ -44,7 +44,7 @@ pub struct Description {
 }
 
 // What the text's writer got wrong.
-#[derive(Clone, Copy)]
+#[derive(Clone, Copy, PartialEq, Eq, Debug)]
 pub enum ReadingFault {
     Misspelled { line: usize, byte: usize },
     OutOfRange { line: usize, byte: usize },
@@ -52,8 +52,8 @@ pub enum ReadingFault {
     WrongTrailer { line: usize, byte: usize },
 }
 
-// What the rule's designer got wrong.
-#[derive(Clone, Copy)]
+// What the rule's designer got wrong. Kind and row stand in each variant by name, where a match reads them; no function takes the two alone.
+#[derive(Clone, Copy, PartialEq, Eq, Debug)]
 pub enum TableFault {
     Reading(ReadingFault),
     OutOfRange { kind: RowKind, row: usize },
@@ -64,7 +64,7 @@ pub enum TableFault {
 }
 
 // Why an event, a beginning or a report is refused.
-#[derive(Clone, Copy)]
+#[derive(Clone, Copy, PartialEq, Eq, Debug)]
 pub enum RunFault {
     Table(TableFault),
     BadEvent { position: usize },
@@ -75,6 +75,7 @@ pub enum RunFault {
     ReportTooShort,
 }
 
+// By hand, since a derived `From` does not say what it gives.
 impl From<ReadingFault> for TableFault {
     ghost from_gives = { λ e r. r ≡ Reading e };
 

@@ -18,11 +18,8 @@ pub fn add_row<T: Copy, const N: usize>(
     ensures answer { told table_fault result ≡ row_answer kind number (is_some row) (nat_lt (length (items rows.old)) N) }
     ensures rows { items rows.new ≡ added_if (told table_fault result) (items rows.old) row }
 {
-    let Some(item) = row else {
-        return Err(TableFault::OutOfRange { kind, row: number });
-    };
-    match rows.push(item) {
-        Some(_) => Ok(number),
-        None => Err(TableFault::TooMany { kind, row: number }),
-    }
+    let item = row.ok_or(TableFault::OutOfRange { kind, row: number })?;
+    rows.push(item)
+        .map(|_| number)
+        .ok_or(TableFault::TooMany { kind, row: number })
 }

@@ -4,9 +4,10 @@ use crate::limits::MAX_TERMS;
 use bounded::BoundedList;
 
 // What a pattern has at one position. `Blank` stands first because the checker reads past an array's end as the first case.
-#[derive(Clone, Copy)]
+#[derive(Clone, Copy, PartialEq, Eq, Debug, Default)]
 pub enum Term {
     // Meets any value and keeps none.
+    #[default]
     Blank,
     // Meets any value, the same at each position of this variable. Numbered from 0 to 3.
     Variable(u8),
@@ -16,7 +17,7 @@ pub enum Term {
     Constant(i64),
 }
 
-#[derive(Clone, Copy)]
+#[derive(Clone, Copy, Default)]
 pub struct Pattern {
     // The number of the events that it may match.
     pub event: u8,

@@ -9,5 +9,5 @@ use crate::limits::MAX_VALUE;
 pub fn is_value(v: i64) -> bool
     ensures { result ≡ is_value v }
 {
-    -MAX_VALUE <= v && v <= MAX_VALUE
+    (-MAX_VALUE..=MAX_VALUE).contains(&v)
 }

@@ -1,10 +1,10 @@
 //! What a theory of rows takes and answers.
 
-ghost use Rattle.std.specs.Prelude.{◌≡◌, [], is_some};
+ghost use Rattle.std.specs.Prelude.{◌≡◌, ◌≤◌, [], is_some};
 ghost use Rattle.bounded.specs.Items.{items};
 ghost use Rattle.qea.specs.Faults.{table_fault, told};
 ghost use Rattle.qea.specs.Limits.{max_guards, max_actions};
-ghost use Rattle.qea.specs.Rows.{adding, added_if};
+ghost use Rattle.qea.specs.Rows.{first_row, adding, added_if};
 ghost use Rattle.qea.specs.declared.fault.RowKind.TheVariants.{Guard, Action};
 ghost use Rattle.row_theory.specs.Rows.{entry, row_meaning};
 
@@ -18,21 +18,36 @@ use theory::Theory;
 fn row_numbered<T: Copy, const N: usize>(rows: &BoundedList<T, N>, n: u8) -> Option<T>
     ensures { result ≡ entry (items rows.now) n }
 {
-    if n == 0 {
-        return None;
-    }
-    rows.get(n as usize - 1)
+    rows.get(usize::from(n).checked_sub(1)?)
+}
+
+// Adds a row after the others and answers its number, counted from 1. None stands for a row with a number out of range.
+// Tables have the like, counted from 0. One for both would be public, and no public call has a condition of this kind.
+fn add_numbered<T: Copy, const N: usize>(
+    rows: &mut BoundedList<T, N>,
+    kind: RowKind,
+    row: Option<T>,
+) -> Result<u8, TableFault>
+    requires few { N ≤ 255 }
+    requires from_one { first_row kind ≡ 1 }
+    ensures answer { told table_fault result ≡ adding kind N (is_some row) (items rows.old) }
+    ensures rows { items rows.new ≡ added_if (told table_fault result) (items rows.old) row }
+{
+    let number = 1 + rows.len();
+    let added = add_row(rows, kind, number, row)?;
+    // By `as`, since the number is known to fit: `try_from` would add a case that never comes.
+    Ok(added as u8)
 }
 
 impl<G: Copy + Default, A: Copy + Default> RowTheory<G, A> {
-    // No guard and no action.
+    // No guard and no action. `Default` beside it would be a second name.
     pub fn empty() -> RowTheory<G, A>
         ensures guards { items result.guards ≡ [] }
         ensures actions { items result.actions ≡ [] }
     {
         RowTheory {
-            guards: BoundedList::empty(G::default()),
-            actions: BoundedList::empty(A::default()),
+            guards: BoundedList::default(),
+            actions: BoundedList::default(),
         }
     }
 }
@@ -58,9 +73,7 @@ impl<G: Copy, A: Copy> RowTheory<G, A> {
         ensures guards { items self.new.guards ≡ added_if (told table_fault result) (items self.old.guards) guard }
         ensures actions { self.new.actions ≡ self.old.actions }
     {
-        let number = 1 + self.guards.len();
-        let row = add_row(&mut self.guards, RowKind::Guard, number, guard)?;
-        Ok(row as u8)
+        add_numbered(&mut self.guards, RowKind::Guard, guard)
     }
 
     // Adds an action and answers its number. None stands for a row with a number out of range.
@@ -69,9 +82,7 @@ impl<G: Copy, A: Copy> RowTheory<G, A> {
         ensures actions { items self.new.actions ≡ added_if (told table_fault result) (items self.old.actions) action }
         ensures guards { self.new.guards ≡ self.old.guards }
     {
-        let number = 1 + self.actions.len();
-        let row = add_row(&mut self.actions, RowKind::Action, number, action)?;
-        Ok(row as u8)
+        add_numbered(&mut self.actions, RowKind::Action, action)
     }
 }
 
@@ -87,37 +98,22 @@ impl<G: GuardRow + Copy, A: ActionRow + Copy> Theory for RowTheory<G, A> {
     }
 
     fn guard_reads(&self, n: u8, place: u8) -> bool {
-        match row_numbered(&self.guards, n) {
-            Some(guard) => guard.reads(place),
-            None => false,
-        }
+        row_numbered(&self.guards, n).is_some_and(|guard| guard.reads(place))
     }
 
     fn action_reads(&self, n: u8, place: u8) -> bool {
-        match row_numbered(&self.actions, n) {
-            Some(action) => action.reads(place),
-            None => false,
-        }
+        row_numbered(&self.actions, n).is_some_and(|action| action.reads(place))
     }
 
     fn guard(&self, n: u8, row: &[i64; PLACES]) -> bool {
-        match row_numbered(&self.guards, n) {
-            Some(guard) => guard.holds(row),
-            None => false,
-        }
+        row_numbered(&self.guards, n).is_some_and(|guard| guard.holds(row))
     }
 
     fn action(&self, n: u8, row: &[i64; PLACES]) -> Option<i64> {
-        match row_numbered(&self.actions, n) {
-            Some(action) => action.result(row),
-            None => None,
-        }
+        row_numbered(&self.actions, n).and_then(|action| action.result(row))
     }
 
     fn register(&self, n: u8) -> u8 {
-        match row_numbered(&self.actions, n) {
-            Some(action) => action.register(),
-            None => 0,
-        }
+        row_numbered(&self.actions, n).map_or(0, |action| action.register())
     }
 }

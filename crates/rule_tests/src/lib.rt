@@ -124,10 +124,7 @@ mod tests {
     }
 
     fn told(answer: Result<u8, TableFault>) -> Result<u8, Description> {
-        match answer {
-            Ok(row) => Ok(row),
-            Err(fault) => Err(fault.describe()),
-        }
+        answer.map_err(TableFault::describe)
     }
 
     const STATE: State = State {
@@ -139,50 +136,27 @@ mod tests {
     #[test]
     fn limits(rt: HostRuntime) {
         let mut draft = Draft::new();
-        for row in 0..17u8 {
-            let due = if row < 16 {
-                Ok(row)
-            } else {
-                Err(described(5, RowKind::State, 16))
-            };
-            assert_eq!(rt; told(draft.add_state(STATE)), due);
+        for row in 0..16 {
+            assert_eq!(rt; told(draft.add_state(STATE)), Ok(row));
         }
-        for row in 0..5u8 {
-            let due = if row < 4 {
-                Ok(row)
-            } else {
-                Err(described(5, RowKind::Start, 4))
-            };
-            assert_eq!(rt; told(draft.add_start(1_000_000_000_000)), due);
+        let state = draft.add_state(STATE);
+        assert_eq!(rt; told(state), Err(described(5, RowKind::State, 16)));
+        for row in 0..4 {
+            assert_eq!(rt; told(draft.add_start(1_000_000_000_000)), Ok(row));
         }
+        let start = draft.add_start(1_000_000_000_000);
+        assert_eq!(rt; told(start), Err(described(5, RowKind::Start, 4)));
         let over = draft.add_start(1_000_000_000_001);
         assert_eq!(rt; told(over), Err(described(2, RowKind::Start, 4)));
         let five = [Term::Blank; 5];
-        assert_eq!(rt;
-            told(draft.add_pattern(0, &five)),
-            Err(described(5, RowKind::Pattern, 0))
-        );
-        let bad = [
-            Term::Blank,
-            Term::Blank,
-            Term::Blank,
-            Term::Blank,
-            Term::Register(4),
-        ];
-        assert_eq!(rt;
-            told(draft.add_pattern(0, &bad)),
-            Err(described(2, RowKind::Pattern, 0))
-        );
+        let long = draft.add_pattern(0, &five);
+        assert_eq!(rt; told(long), Err(described(5, RowKind::Pattern, 0)));
+        let mut bad = five;
+        bad[4] = Term::Register(4);
+        let stray = draft.add_pattern(0, &bad);
+        assert_eq!(rt; told(stray), Err(described(2, RowKind::Pattern, 0)));
         assert_eq!(rt; told(draft.add_pattern(0, &five[0..4])), Ok(0));
     }
-
-    const FREE: Transition = Transition {
-        from: 0,
-        pattern: 0,
-        guard: 0,
-        action: 0,
-        to: 0,
-    };
 
     // One guard that reads variable 1 and register 0, and one action that reads variable 0.
     fn two_rows() -> LinearTheory {
@@ -229,11 +203,12 @@ mod tests {
         let first = [Term::Variable(0), Term::Blank];
         let second = [Term::Variable(1), Term::Blank];
         let stray = [Term::Variable(2), Term::Blank];
-        let absent = Transition { to: 1, ..FREE };
-        let guarded = Transition { guard: 1, ..FREE };
-        let acting = Transition { action: 1, ..FREE };
+        let free = Transition::default();
+        let absent = Transition { to: 1, ..free };
+        let guarded = Transition { guard: 1, ..free };
+        let acting = Transition { action: 1, ..free };
         let cases = [
-            ([0, 0], both, FREE, None),
+            ([0, 0], both, free, None),
             ([2, 0], stray, absent, Some(described(6, quantifier, 0))),
             ([1, 0], stray, absent, Some(described(7, quantifier, 0))),
             ([0, 1], stray, absent, Some(described(7, quantifier, 1))),
@@ -249,11 +224,8 @@ mod tests {
             ([0, 0], second, acting, Some(described(7, transition, 0))),
         ];
         for (guards, terms, transition, due) in cases {
-            let told = match draft_of(guards, &terms, transition).can_seal(&theory) {
-                Ok(()) => None,
-                Err(fault) => Some(fault.describe()),
-            };
-            assert_eq!(rt; told, due);
+            let refused = draft_of(guards, &terms, transition).can_seal(&theory).err();
+            assert_eq!(rt; refused.map(TableFault::describe), due);
         }
         assert!(rt; Draft::new().can_seal(&theory).is_err());
     }

@@ -1,111 +1,79 @@
 -- A row has no fault exactly if it fits.
-use Rattle.std.proofs.Common.{◌≡◌, ℕ, zero, suc, ◌<◌, true, false, ◌⊎◌, ◌↔◌, List, length, Some, None, Option, sym, refl, subst, arith}
+use Rattle.std.proofs.Common.{◌≡◌, ℕ, ◌<◌, ◌≤◌, true, false, ◌⊎◌, ◌↔◌, List, length, None, refl, ⊎_elim, arith}
 use mathlib.Core.Logic.Iff
 use Rattle.std.specs.List.{slice_get}
-use Rattle.std.proofs.lemmas.Bool.{false≢true, eqb-true, eq-eqb}
-use Rattle.qea.specs.declared.fault.RowKind.TheVariants.{Quantifier as quantifier, Pattern as pattern, Transition as transition}
+use Rattle.std.proofs.lemmas.Bool.Decides.{nat_tests}
+use Rattle.std.proofs.lemmas.Option.{slice_get_cases, slice_get_within}
+use Rattle.qea.specs.declared.fault.RowKind.TheVariants.{Transition as transition}
 use Rattle.qea.specs.declared.term.Term.{Term}
-use Rattle.qea.specs.declared.term.Term.TheVariants.{Blank, Variable, Register, Constant}
+use Rattle.qea.specs.declared.term.Term.TheVariants.{Variable}
 use Rattle.qea.specs.declared.automaton.Quantifier.{Quantifier}
 use Rattle.qea.specs.declared.automaton.Transition.{Transition}
 use Rattle.qea.specs.Limits.{max_quantifiers, places}
-use Rattle.qea.specs.Lists.{any, In}
-use Rattle.qea.specs.Meaning.{Meaning, Guard, guard_reads, guard_there, action_there, guard_reads_at, action_reads_at}
+use Rattle.qea.specs.Lists.{In}
+use Rattle.qea.specs.Meaning.{Meaning, guard_there, action_there, guard_reads_at, action_reads_at}
 use Rattle.qea.specs.Automaton.{Pattern, Automaton}
-use Rattle.sealing.specs.Sealing.{variables, all_places, quantifier_misreads, quantifier_fault, lacks_quantifier, pattern_fault, is_variable, terms_of, transition_lacks, transition_misreads, transition_fault}
-use Rattle.sealing.specs.WellFormed.{QuantifierFits, PatternFits, TransitionFits}
-use Rattle.sealing.proofs.Failing.{not_fails, leb_fails, or_fails, or_passes, and_fails_left, and_fails_right, any_fails, any_finds}
-use Rattle.sealing.proofs.Members.{nth_there, nth_below}
-use Rattle.sealing.proofs.Faultless.{row_none}
-
-place_listed : (i : ℕ) → i < places → In i all_places
-place_listed i below = grind arith
-
-variable_listed : (i : ℕ) → i < max_quantifiers → In i variables
-variable_listed i below = grind arith
-
-variable_below : (i : ℕ) → In i variables → i < max_quantifiers
-variable_below i listed = omega arith
+use Rattle.qea.specs.Matching.{is_variable}
+use Rattle.sealing.specs.Sealing.{variables, all_places, misplaced, quantifier_fault, lacks_quantifier, pattern_fault, terms_of, transition_lacks, misread, transition_misreads, transition_fault}
+use Rattle.qea.specs.WellFormed.{QuantifierFits, PatternFits, TransitionFits}
+use Rattle.sealing.proofs.Faultless.{any_fails, any_finds, row_none}
 
 -- a guard reads only places
-reads_place : (m : Meaning) (n i : ℕ) → guard_reads_at m n i ≡ true → i < places
-reads_place m zero i e = absurd (false≢true e)
-reads_place m (suc n) i e = go (m.guard (suc n)) e
-  where
-    go : (o : Option Guard) → guard_reads o i ≡ true → i < places
-    go None e = absurd (false≢true e)
-    go (Some g) e = g.reads_places i e
+reads_listed : (m : Meaning) (n i : ℕ) → guard_reads_at m n i ≡ true → In i all_places
+reads_listed m n i e = let below : i < places = grind arith in grind arith
 
-pub quantifier_none : (a : Automaton) (m : Meaning) (k : ℕ) (q : Quantifier) → (quantifier_fault a m k q ≡ None) ↔ QuantifierFits m k q
-quantifier_none a m k q =
-    Iff.trans
-    (row_none quantifier k _ (quantifier_misreads m k q) (not_fails (guard_there m q.guard))
-    (any_fails _ (λ i. (guard_reads_at m q.guard i ≡ true → (i < max_quantifiers) × (i < suc k)))
-    (λ i. and_fails_left _ _ (or_fails _ _ (leb_fails max_quantifiers i) (leb_fails (suc k) i)))
-    all_places)) (
-      λ h. record {
-        guard = h.0;
-        reads = λ i e. let low = h.1 i (place_listed i (reads_place m q.guard i e)) e in (omega arith, low.0);
-      },
-      λ fits. (fits.guard, λ i listed e. let low = fits.reads i e in (low.1, omega arith)),
+misplaced_fails : (m : Meaning) (k : ℕ) (q : Quantifier) (i : ℕ) → (misplaced m k q i ≡ false) ↔ (guard_reads_at m q.guard i ≡ true → (i ≤ k) × (i < max_quantifiers))
+misplaced_fails m k q i = (grind (arith, nat_tests), grind (arith, nat_tests))
+
+pub quantifier_none : (m : Meaning) (k : ℕ) (q : Quantifier) → (quantifier_fault m k q ≡ None) ↔ QuantifierFits m k q
+quantifier_none m k q =
+    let reads = any_fails (misplaced m k q) (λ i. guard_reads_at m q.guard i ≡ true → (i ≤ k) × (i < max_quantifiers)) (misplaced_fails m k q) all_places in (
+      λ e. record { guard = grind arith; reads = λ i is. reads.0 (grind arith) i (reads_listed m q.guard i is) is },
+      λ fits. let none = reads.1 (λ i listed. fits.reads i) in let there = fits.guard in grind arith,
     )
 
 -- a term lacks no quantifier if its variable has one
 lacks_fails : (many : ℕ) (t : Term) → (lacks_quantifier many t ≡ false) ↔ ((v : ℕ) → t ≡ Variable v → v < many)
-lacks_fails many Blank = (λ e v is. absurd (false≢true cc), λ h. refl)
-lacks_fails many (Variable w) =
-    Iff.trans (leb_fails many w) (λ below v is. let same : w ≡ v = cc in omega arith, λ h. h w refl)
-lacks_fails many (Register r) = (λ e v is. absurd (false≢true cc), λ h. refl)
-lacks_fails many (Constant c) = (λ e v is. absurd (false≢true cc), λ h. refl)
+lacks_fails many t = (grind (arith, nat_tests), grind (arith, nat_tests))
 
-pub pattern_none : (a : Automaton) (m : Meaning) (k : ℕ) (p : Pattern) → (pattern_fault a m k p ≡ None) ↔ PatternFits a p
-pattern_none a m k p =
+pub pattern_none : (a : Automaton) (k : ℕ) (p : Pattern) → (pattern_fault a k p ≡ None) ↔ PatternFits a p
+pattern_none a k p =
     let many = length a.quantifiers in
-    Iff.trans
-    (row_none {Q = Unit {0}} pattern k (any (lacks_quantifier many) p.terms) false
-    (any_fails (lacks_quantifier many) (λ t. ((v : ℕ) → t ≡ Variable v → v < many)) (lacks_fails many) p.terms)
-    (λ e. tt, λ u. refl))
-    (λ h v stands. h.0 (Variable v) stands v refl, λ fits. (λ t stands v is. fits v (subst (λ (u : Term). In u p.terms) is stands), tt))
+    let lacks = any_fails (lacks_quantifier many) (λ t. (v : ℕ) → t ≡ Variable v → v < many) (lacks_fails many) p.terms in (
+      λ e v stands. lacks.0 (grind arith) (Variable v) stands v refl,
+      λ fits. let none = lacks.1 (λ t stands v is. fits v (rw is at stands)) in grind arith,
+    )
 
 is_variable_is : (i : ℕ) (t : Term) → (is_variable i t ≡ true) ↔ (t ≡ Variable i)
-is_variable_is i Blank = (λ e. absurd (false≢true e), λ is. absurd (false≢true cc))
-is_variable_is i (Variable v) = (λ e. let same = eqb-true v i e in cc, λ is. eq-eqb v i cc)
-is_variable_is i (Register r) = (λ e. absurd (false≢true e), λ is. absurd (false≢true cc))
-is_variable_is i (Constant c) = (λ e. absurd (false≢true e), λ is. absurd (false≢true cc))
+is_variable_is i t = (grind (arith, nat_tests), grind (arith, nat_tests))
 
 module _ (a : Automaton) (m : Meaning) (t : Transition) where
   abbrev terms : List Term
   terms = terms_of (slice_get a.patterns t.pattern)
 
-  abbrev guard_or_action_reads : ℕ → Type 0
-  guard_or_action_reads i = (guard_reads_at m t.guard i ≡ true) ⊎ (action_reads_at m t.action i ≡ true)
+  abbrev read_stands : List Term → ℕ → Type 0
+  read_stands terms i = (guard_reads_at m t.guard i ≡ true) ⊎ (action_reads_at m t.action i ≡ true) → In (Variable i) terms
 
-  -- what the guard and the action read of the variables stands in the pattern
-  misreads_nothing : (transition_misreads a m t ≡ false) ↔ ((i : ℕ) → In i variables → guard_or_action_reads i → In (Variable i) terms)
-  misreads_nothing =
-      any_fails _ (λ i. (guard_or_action_reads i → In (Variable i) terms))
-      (λ i. and_fails_right _ _ (or_passes (guard_reads_at m t.guard i) (action_reads_at m t.action i))
-      (Iff.trans (not_fails _) (any_finds (is_variable i) (Variable i) (is_variable_is i) terms)))
-      variables
+  misread_fails : (terms : List Term) (i : ℕ) → (misread m t terms i ≡ false) ↔ read_stands terms i
+  misread_fails terms i =
+      let finds = any_finds (is_variable i) (Variable i) (is_variable_is i) terms in (λ e. grind arith, λ h. grind arith)
 
   -- what the transition names is there
-  lacks_nothing : (transition_lacks a m t ≡ false) ↔ (((((t.from < length a.states) × (t.pattern < length a.patterns)) × (guard_there m t.guard ≡ true)) × (action_there m t.action ≡ true)) × (t.to < length a.states))
-  lacks_nothing =
-      or_fails _ _ (or_fails _ _ (or_fails _ _ (or_fails _ _ (leb_fails _ _) (leb_fails _ _)) (not_fails _)) (not_fails _)) (leb_fails _ _)
+  lacks_nothing : (transition_lacks a m t ≡ false) ↔ ((t.from < length a.states) × (t.pattern < length a.patterns) × (guard_there m t.guard ≡ true) × (action_there m t.action ≡ true) × (t.to < length a.states))
+  lacks_nothing = (grind (arith, nat_tests), grind (arith, nat_tests))
 
   pub transition_none : (k : ℕ) → (transition_fault a m k t ≡ None) ↔ TransitionFits a m t
   transition_none k =
-      Iff.trans (row_none transition k (transition_lacks a m t) (transition_misreads a m t) lacks_nothing misreads_nothing) (
-        λ h. let there = nth_there a.patterns t.pattern h.0.0.0.0.1 in
-            record {
-              from = h.0.0.0.0.0;
-              to = h.0.1;
-              guard = h.0.0.0.1;
-              action = h.0.0.1;
-              pattern = (there.0, there.1, λ i low reads. subst (λ (o : Option Pattern). In (Variable i) (terms_of o)) there.1 (h.1 i (variable_listed i low) reads));
-            },
+      Iff.trans (row_none transition k (transition_lacks a m t) (transition_misreads a m t) lacks_nothing (any_fails (misread m t terms) (read_stands terms) (misread_fails terms) variables)) (
+        λ h. record {
+          from = h.0.0;
+          to = h.0.4;
+          guard = h.0.2;
+          action = h.0.3;
+          pattern = ⊎_elim (λ here. (here.0, here.2, λ i low. (rw here.2 at h.1) i (grind arith))) (λ past. absurd (omega arith)) (slice_get_cases a.patterns t.pattern).1;
+        },
         λ fits. (
-          ((((fits.from, nth_below a.patterns t.pattern fits.pattern.0 fits.pattern.1), fits.guard), fits.action), fits.to),
-          λ i listed reads. subst (λ (o : Option Pattern). In (Variable i) (terms_of o)) (sym fits.pattern.1) (fits.pattern.2 i (variable_below i listed) reads),
+          (fits.from, slice_get_within a.patterns t.pattern fits.pattern.0 fits.pattern.1, fits.guard, fits.action, fits.to),
+          λ i listed. rw fits.pattern.1 (fits.pattern.2 i (omega arith)),
         ),
       )

@@ -1,5 +1,3 @@
-pub mod Failing
-pub mod Members
 pub mod Faultless
 pub mod Fitting
 pub mod Deciding

@@ -1,3 +1,4 @@
 pub mod Model
 pub mod Sealing
+pub mod Rows
 pub mod WellFormed

@@ -6,8 +6,9 @@ use qea::{
     State, Transition,
 };
 
-// The rows of each kind, in plain storage of fixed size. State 0 is the start.
-#[derive(Clone, Copy)]
+// The rows of each kind, in plain storage of fixed size. State 0 is the start. Its lists are read one by one, so contracts name the
+// automaton that they make (`automaton_of`) and no model hides them.
+#[derive(Clone, Copy, Default)]
 pub struct Table {
     pub quantifiers: BoundedList<Quantifier, MAX_QUANTIFIERS>,
     // Of registers 0, 1, ..; a register without one starts at 0.

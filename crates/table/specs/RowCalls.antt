@@ -12,14 +12,9 @@ use Rattle.qea.specs.Faults.{table_fault}
 use Rattle.qea.specs.Rows.{row_answer, added}
 use Rattle.qea.specs.declared.fault.RowKind.TheVariants.{Pattern as patterns}
 use Rattle.qea.specs.Limits.{max_terms, max_patterns}
-use Rattle.qea.specs.Lists.{every}
-use Rattle.sealing.specs.Model.{pattern_of, automaton_of}
-use Rattle.table.specs.declared.stages.Draft.{Draft}
+use Rattle.std.specs.List.{list_all}
+use Rattle.sealing.specs.Model.{pattern_of}
 use Rattle.table.specs.Terms.{term_in_range}
-
--- the automaton that a draft's rows make
-abbrev pub drafted : Draft → Automaton
-drafted d = automaton_of d.table
 
 -- the answer of a call that makes a pattern, in numbers
 abbrev pub pattern_told : Result declared.Pattern TableFault → Result Pattern Description
@@ -28,7 +23,7 @@ pattern_told (Err f) = Err (table_fault f)
 
 -- A pattern's row call: 2 if a term is out of range, 5 if there is a fifth term or no room for the row.
 abbrev pub adding_pattern : Automaton → List Term → Result ℕ Description
-adding_pattern a ts = row_answer patterns (length a.patterns) (every term_in_range ts) (nat_le (length ts) max_terms && nat_lt (length a.patterns) max_patterns)
+adding_pattern a ts = row_answer patterns (length a.patterns) (list_all term_in_range ts) (nat_le (length ts) max_terms && nat_lt (length a.patterns) max_patterns)
 
 abbrev pub empty_automaton : Automaton
 empty_automaton = record { quantifiers = []; starts = []; states = []; patterns = []; transitions = [] }

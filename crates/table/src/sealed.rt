@@ -5,27 +5,26 @@ ghost use Rattle.qea.specs.Faults.{table_fault, told};
 ghost use Rattle.qea.specs.Meaning.{holds, acted};
 ghost use Rattle.sealing.specs.Model.{automaton_of};
 ghost use Rattle.sealing.specs.Sealing.{sealing};
-ghost use Rattle.sealing.specs.WellFormed.{WellFormed};
-ghost use Rattle.table.specs.RowCalls.{drafted};
+ghost use Rattle.qea.specs.WellFormed.{WellFormed};
 
 use crate::stages::{Draft, SealedTable};
 use qea::{PLACES, TableFault};
 use sealing::{Table, check_table};
-use theory::{Theory, act, guard_holds};
+use theory::Theory;
 
 impl Draft {
     // Whether the draft may be sealed with this theory. Nothing moves.
     pub fn can_seal<T: Theory>(&self, theory: &T) -> Result<(), TableFault>
-        ensures answer { told table_fault result ≡ sealing (drafted self.now) (T.Theory.meaning theory.now) }
-        ensures decides { Decides (is_ok result) (WellFormed (drafted self.now) (T.Theory.meaning theory.now)) }
+        ensures answer { told table_fault result ≡ sealing (automaton_of self.now) (T.Theory.meaning theory.now) }
+        ensures decides { Decides (is_ok result) (WellFormed (automaton_of self.now) (T.Theory.meaning theory.now)) }
     {
         check_table(&self.table, theory)
     }
 
     // Uses up the draft and the theory. It stands on the yes of `can_seal` for the same two.
     pub fn seal<T: Theory>(self, theory: T) -> SealedTable<T>
-        requires { sealing (drafted self) (T.Theory.meaning theory) ≡ Ok tt }
-        ensures table { result.table ≡ self.table }
+        requires { sealing (automaton_of self) (T.Theory.meaning theory) ≡ Ok tt }
+        ensures table { result.table ≡ self }
         ensures theory { result.theory ≡ theory }
         ensures well_formed { WellFormed (automaton_of result.table) (T.Theory.meaning result.theory) }
     {
@@ -51,13 +50,13 @@ impl<T: Theory> SealedTable<T> {
     pub fn guard_holds(&self, guard: u8, row: &[i64; PLACES]) -> bool
         ensures { result ≡ holds (T.Theory.meaning self.now.theory) guard row.now }
     {
-        guard_holds(&self.theory, guard, row)
+        self.theory.guard_holds(guard, row)
     }
 
     // The row of places after an action has written, or none if that is out of range.
     pub fn act(&self, action: u8, row: &[i64; PLACES]) -> Option<[i64; PLACES]>
         ensures { result ≡ acted (T.Theory.meaning self.now.theory) action row.now }
     {
-        act(&self.theory, action, row)
+        self.theory.act(action, row)
     }
 }

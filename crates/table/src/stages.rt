@@ -1,6 +1,12 @@
 //! The stages of a rule: a draft, and a sealed table.
 
+ghost use Rattle.std.specs.Prelude.{◌≡◌, Ok};
+ghost use Rattle.sealing.specs.Model.{automaton_of};
+ghost use Rattle.sealing.specs.Sealing.{sealing};
+
 use sealing::Table;
+use std::marker::Model;
+use theory::Theory;
 
 // A rule in the making. It takes rows, and is then sealed with a theory.
 #[derive(Drop)]
@@ -8,9 +14,19 @@ pub struct Draft {
     pub(crate) table: Table,
 }
 
-// A rule whose rows have been checked against its theory, which it holds.
+// Contracts see a draft as the rows that it has so far.
+impl Model for Draft {
+    ghost use Rattle.sealing.specs.declared.table.Table.{Table};
+
+    ghost Value = { Table };
+
+    ghost view = { λ d. d.table };
+}
+
+// A rule with its theory. Its type says that sealing grants it, which means that it is well formed for the theory.
 #[derive(Drop)]
-pub struct SealedTable<T> {
+pub struct SealedTable<T: Theory> {
     pub(crate) table: Table,
     pub(crate) theory: T,
+    pub ghost granted: { sealing (automaton_of table) (T.Theory.meaning theory) ≡ Ok tt },
 }

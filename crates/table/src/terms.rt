@@ -1,7 +1,7 @@
 //! Patterns and the numbers in their terms.
 
 ghost use Rattle.std.specs.Prelude.{◌≡◌};
-ghost use Rattle.qea.specs.Lists.{every};
+ghost use Rattle.std.specs.List.{list_all};
 ghost use Rattle.table.specs.RowCalls.{pattern_told};
 ghost use Rattle.table.specs.Terms.{term_in_range, pattern_from};
 
@@ -13,21 +13,16 @@ fn is_in_range(term: Term) -> bool
 {
     match term {
         Term::Blank => true,
-        Term::Variable(variable) => (variable as usize) < MAX_QUANTIFIERS,
-        Term::Register(register) => (register as usize) < REGISTERS,
+        Term::Variable(variable) => usize::from(variable) < MAX_QUANTIFIERS,
+        Term::Register(register) => usize::from(register) < REGISTERS,
         Term::Constant(value) => is_value(value),
     }
 }
 
 fn all_in_range(terms: &[Term]) -> bool
-    ensures { result ≡ every term_in_range terms.now }
+    ensures { result ≡ list_all term_in_range terms.now }
 {
-    for term in terms {
-        if !is_in_range(*term) {
-            return false;
-        }
-    }
-    true
+    terms.iter().all(|term| is_in_range(*term))
 }
 
 // The pattern for this row, or why it cannot be one.
@@ -38,8 +33,7 @@ pub(crate) fn pattern_from(row: usize, event: u8, terms: &[Term]) -> Result<Patt
     if !all_in_range(terms) {
         return Err(TableFault::OutOfRange { kind, row });
     }
-    match BoundedList::from_slice(Term::Blank, terms) {
-        Some(terms) => Ok(Pattern { event, terms }),
-        None => Err(TableFault::TooMany { kind, row }),
-    }
+    BoundedList::from_slice(Term::Blank, terms)
+        .map(|terms| Pattern { event, terms })
+        .ok_or(TableFault::TooMany { kind, row })
 }

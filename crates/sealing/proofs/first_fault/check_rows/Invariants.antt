@@ -1,10 +1,10 @@
-use Rattle.std.proofs.Common.{◌≡◌, drop}
-use Rattle.sealing.specs.Model.{automaton_of}
+use Rattle.std.proofs.Common.{◌≡◌, ℕ, Option, drop}
+use Rattle.qea.specs.declared.fault.Description.{Description}
+use Rattle.sealing.specs.Rows.{Tells}
 use Rattle.sealing.specs.Sealing.{first_fault}
 use Rattle.sealing.proofs.first_fault.check_rows.Given as goal
 
 -- the rows that are left have the fault of all
-abbrev pub invariant-loop-i : goal.invariant-loop-i
-invariant-loop-i g l =
-    first_fault (g.R.CheckedRow.fault (automaton_of l.table) (g.T.Theory.meaning l.theory)) l.i (drop l.i l.rows)
-    ≡ first_fault (g.R.CheckedRow.fault (automaton_of l.table) (g.T.Theory.meaning l.theory)) 0 l.rows
+abbrev pub invariant-loop-row : goal.invariant-loop-row
+invariant-loop-row g l =
+    (fault : ℕ → _ → Option Description) → Tells (goal.F-post g l.check) fault → first_fault fault l.row (drop l.row l.rows) ≡ first_fault fault 0 l.rows

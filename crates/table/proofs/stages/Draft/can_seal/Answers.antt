@@ -1,10 +1,5 @@
-use Rattle.sealing.specs.Model.{automaton_of}
 use Rattle.sealing.proofs.Deciding.{answer_decides}
 use Rattle.table.proofs.stages.Draft.can_seal.Goals as goal
 
-pub returns : goal.returns
-returns g c =
-    record {
-      answer = c.check_table.ensures;
-      decides = answer_decides (automaton_of c.args.self.now.table) (g.T.Theory.meaning c.args.theory.now) c.check_table.result c.check_table.ensures;
-    }
+pub returns-clause-decides : goal.returns-clause-decides
+returns-clause-decides g c = rw (← c.self.view_is) (answer_decides _ _ c.check_table.result c.check_table.ensures)
