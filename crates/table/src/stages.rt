@@ -23,7 +23,8 @@ impl Model for Draft {
     ghost view = { λ d. d.table };
 }
 
-// A rule with its theory. Its type says that sealing grants it, which means that it is well formed for the theory.
+// A rule with its theory. Its type says that sealing grants it, which means that it is well formed for the theory. Contracts name
+// the two fields: a model would hide them, and with them the fact that proofs read.
 #[derive(Drop)]
 pub struct SealedTable<T: Theory> {
     pub(crate) table: Table,
