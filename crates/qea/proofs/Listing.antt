@@ -1,11 +1,12 @@
 -- The listings of the bindings and of the total ones: how long the first is and what stands where, and what the second has.
-use Rattle.std.proofs.Common.{◌≡◌, ℕ, zero, suc, ◌+◌, ◌*◌, ◌/◌, ◌%◌, ◌<◌, List, [], ◌∷◌, map, length, get_or, take, ℤ, Some, None, sym, refl, ap, ◌∙◌, subst, ap₂, inl, inr, arith, length-append}
+use Rattle.std.proofs.Common.{◌≡◌, ℕ, zero, suc, ◌+◌, ◌*◌, ◌/◌, ◌%◌, ◌<◌, List, [], ◌∷◌, map, length, get_or, take, ℤ, Some, None, Option, sym, refl, ap, ◌∙◌, subst, ap₂, inl, inr, arith, length-append}
 use Rattle.std.specs.List.{flat_map}
 use Rattle.std.proofs.lemmas.List.{length-map, length-take-le, get_or-map}
 use Rattle.std.proofs.lemmas.List.Concat.{get_or-flat_map}
+use Rattle.std.proofs.lemmas.Option.{none-some, same_Some}
 use Rattle.std.proofs.lemmas.Nat.{div_below, mod_below, div-add-mod'}
 use Rattle.qea.specs.Lists.{In}
-use Rattle.qea.specs.Bindings.{Binding, TotalOf, entries, bindings, total_bindings, product, entry_at, binding_at}
+use Rattle.qea.specs.Bindings.{Binding, EntryOf, BindingOf, TotalOf, entries, bindings, total_bindings, product, entry_at, binding_at}
 use Rattle.qea.proofs.Members.{in_map, of_map, in_flat_map, of_flat_map}
 
 -- all bindings, in the order of their numbers
@@ -46,6 +47,21 @@ listed_at (d ∷ ds) n l =
     ∙ get_or-flat_map (block d) (bindings ds) i j [] [] (omega arith) (omega (arith, length_block d (get_or (bindings ds) i [])))
     ∙ get_or-map (λ o. o ∷ get_or (bindings ds) i []) (entries d) j None [] (omega (arith, length-map d Some))
     ∙ ap₂ ◌∷◌ (entries_at d j) (listed_at ds i below)
+
+-- each listed one gives each variable nothing or a value of its domain
+
+of_entries : (d : List ℤ) (o : Option ℤ) → In o (entries d) → EntryOf d o
+of_entries d None m = tt
+of_entries d (Some v) (inl e) = absurd (none-some v (sym e))
+of_entries d (Some v) (inr m) = let r = of_map Some (Some v) d m in subst (λ (w : ℤ). In w d) (sym (same_Some v r.0 r.2)) r.1
+
+pub of_bindings : (ds : List (List ℤ)) (b : Binding) → In b (bindings ds) → BindingOf ds b
+of_bindings [] b (inl e) = subst (BindingOf []) (sym e) tt
+of_bindings [] b (inr m) = absurd m
+of_bindings (d ∷ ds) b m =
+    let r = of_flat_map (block d) b (bindings ds) m in
+    let s = of_map (λ o. o ∷ r.0) b (entries d) r.2 in
+    subst (BindingOf (d ∷ ds)) (sym s.2) (of_entries d s.0 s.1, of_bindings ds r.0 r.1)
 
 -- the total ones
 

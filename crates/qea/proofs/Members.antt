@@ -1,5 +1,5 @@
 -- What stands in a list, and what tests over a list then say.
-use Rattle.std.proofs.Common.{◌≡◌, ℕ, zero, suc, ◌+◌, ◌<◌, Bool, true, false, cond, ◌||◌, ◌⊎◌, List, [], ◌∷◌, ◌++◌, map, length, is_some, Some, None, Decides, filter, Option, sym, refl, ap, ◌∙◌, subst, inl, inr, ⊎_elim, arith}
+use Rattle.std.proofs.Common.{◌≡◌, ℕ, zero, suc, ◌+◌, ◌<◌, Bool, true, false, cond, ◌&&◌, ◌||◌, ◌⊎◌, List, [], ◌∷◌, ◌++◌, map, length, is_some, Some, None, Decides, filter, Option, sym, refl, ap, ◌∙◌, subst, inl, inr, ⊎_elim, arith}
 use Rattle.std.proofs.lemmas.Option.{none-some, same_Some}
 use Rattle.std.specs.List.{slice_get, list_all, list_any, position_from, flat_map}
 use Rattle.std.proofs.lemmas.Bool.{false≢true, and_parts, and_from, cond_both, or_cases, or_left, or_right, both_ways, false_from_ne_true}
@@ -65,6 +65,13 @@ of_map f y [] m = absurd m
 of_map f y (x ∷ xs) (inl e) = (x, inl refl, e)
 of_map f y (x ∷ xs) (inr m) = let r = of_map f y xs m in (r.0, inr r.1, r.2)
 
+pub in_present : {X : Type 0} (os : List (Option X)) (x : X) → In (Some x) os → In x (present os)
+in_present [] x m = absurd m
+in_present (None ∷ os) x (inl e) = absurd (none-some x (sym e))
+in_present (None ∷ os) x (inr m) = in_present os x m
+in_present (Some y ∷ os) x (inl e) = inl (same_Some x y e)
+in_present (Some y ∷ os) x (inr m) = inr (in_present os x m)
+
 pub of_present : {X : Type 0} (os : List (Option X)) (x : X) → In x (present os) → In (Some x) os
 of_present [] x m = absurd m
 of_present (None ∷ os) x m = inr (of_present os x m)
@@ -99,6 +106,14 @@ every_false f xs x m e = false_from_ne_true (list_all f xs) (λ t. both_ways (f 
 
 pub any_false : {X : Type 0} (f : X → Bool) (xs : List X) → ((x : X) → In x xs → f x ≡ false) → list_any f xs ≡ false
 any_false f xs h = false_from_ne_true (list_any f xs) (λ t. let r = of_any f xs t in both_ways (f r.0) (h r.0 r.1) r.2)
+
+pub every_no : {X : Type 0} (f : X → Bool) (xs : List X) → list_all f xs ≡ false → (x : X) × In x xs × (f x ≡ false)
+every_no f [] t = absurd (false≢true (sym t))
+every_no {X} f (x ∷ xs) t = go (f x) refl t (λ k. every_no f xs k)
+  where
+    go : (s : Bool) → f x ≡ s → (s && list_all f xs) ≡ false → (list_all f xs ≡ false → (y : X) × In y xs × (f y ≡ false)) → (y : X) × In y (x ∷ xs) × (f y ≡ false)
+    go true e k rest = let r = rest k in (r.0, inr r.1, r.2)
+    go false e k rest = (x, inl refl, e)
 
 pub every_decides : {X : Type 0} (f : X → Bool) (P : X → Type 0) (xs : List X) → ((x : X) → Decides (f x) (P x)) → Decides (list_all f xs) ((x : X) → In x xs → P x)
 every_decides f P xs d = ((λ t x m. (d x).0 (every_at f xs x t m)), λ h. every_from f xs (λ x m. (d x).1 (h x m)))

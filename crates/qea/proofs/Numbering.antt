@@ -1,5 +1,5 @@
 -- Number and binding determine each other, and the listing stands in the order of the numbers.
-use Rattle.std.proofs.Common.{◌≡◌, ℕ, zero, suc, ◌+◌, ◌*◌, ◌/◌, ◌%◌, ◌<◌, true, List, [], ◌∷◌, length, get_or, ℤ, pos, is_some, Some, None, Option, sym, refl, ap, ◌∙◌, subst, ap₂, inl, inr, ⊎_elim, arith}
+use Rattle.std.proofs.Common.{◌≡◌, ℕ, zero, suc, ◌+◌, ◌*◌, ◌/◌, ◌%◌, ◌<◌, ◌≤◌, true, List, [], ◌∷◌, length, get_or, ℤ, pos, is_some, Some, None, Option, sym, refl, ap, ◌∙◌, subst, ap₂, inl, inr, ⊎_elim, arith}
 use Rattle.std.specs.List.{range_with_len, slice_get}
 use Rattle.std.proofs.lemmas.Nat.{mul-add-lt, div-mul-add, mod-mul-add, div_below, mod_below, div-add-mod'}
 use Rattle.std.proofs.lemmas.Bool.{false≢true, cases_order}
@@ -15,9 +15,9 @@ use Rattle.qea.specs.Domains.{position_of, domain, domains}
 use Rattle.qea.specs.Bindings.{Binding, EntryOf, BindingOf, bindings, product, counted, digit, number, entry_at, binding_at}
 use Rattle.qea.specs.Laws.{BindingsNumbered, BindingsListed}
 use Rattle.qea.proofs.Sameness.{same_is, same_self}
-use Rattle.qea.proofs.Members.{nth_in, in_nth, of_map, any_at, some_first}
+use Rattle.qea.proofs.Members.{nth_in, of_map, any_at, some_first}
 use Rattle.qea.proofs.Growth.{domains_apart}
-use Rattle.qea.proofs.Listing.{length_bindings, listed_at}
+use Rattle.qea.proofs.Listing.{length_bindings, listed_at, of_bindings}
 
 -- digits
 
@@ -44,6 +44,11 @@ entry_read d (suc i) a l =
     subst (λ (o : Option ℤ). EntryOf d o × (digit d o ≡ suc i)) (sym at) (here, digit_own d (digit d (Some v)) i a r.0 (omega arith) (r.1 ∙ sym at))
 
 -- numbers
+
+pub in_counting : (i n k : ℕ) → In k (range_with_len i n) → (i ≤ k) × (k < i + n)
+in_counting i zero k m = absurd m
+in_counting i (suc n) k (inl e) = (omega arith, omega arith)
+in_counting i (suc n) k (inr m) = let r = in_counting (i + 1) n k m in (omega (arith, r.0), omega (arith, r.1))
 
 number_read : (ds : List (List ℤ)) (b : Binding) → BindingOf ds b → (number ds b < product ds) × (binding_at ds (number ds b) ≡ b)
 number_read [] [] m = (omega arith, refl)
@@ -82,12 +87,6 @@ pub in_bindings : (ds : List (List ℤ)) (b : Binding) → BindingOf ds b → In
 in_bindings ds b m = let r = number_read ds b m in nth_in (bindings ds) (number ds b) b (listed ds (number ds b) r.0 ∙ ap Some r.1)
 
 module _ (ds : List (List ℤ)) (a : (d : List ℤ) → In d ds → Distinct d) where
-  of_bindings : (b : Binding) → In b (bindings ds) → BindingOf ds b
-  of_bindings b m =
-      let r = in_nth (bindings ds) b m in
-      let below : r.0 < product ds = let l = r.1 in omega (arith, length_bindings ds) in
-      subst (BindingOf ds) (same_Some _ _ (sym (listed ds r.0 below) ∙ r.2)) (binding_read ds a r.0 below).0
-
   bindings_distinct : Distinct (bindings ds)
   bindings_distinct i j l k e =
       let lj : j < product ds = omega (arith, length_bindings ds) in
@@ -96,7 +95,7 @@ module _ (ds : List (List ℤ)) (a : (d : List ℤ) → In d ds → Distinct d) 
       omega (arith, (binding_read ds a i li).1, (binding_read ds a j lj).1, ap (number ds) same)
 
 pub of_domain_bindings : (a : Automaton) (h : List Event) (b : Binding) → In b (bindings (domains a h)) → BindingOf (domains a h) b
-of_domain_bindings a h = of_bindings (domains a h) (domains_each_distinct a h)
+of_domain_bindings a h = of_bindings (domains a h)
 
 pub bindings_listed : BindingsListed
 bindings_listed a h = record {

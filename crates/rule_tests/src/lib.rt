@@ -12,7 +12,7 @@ mod tests {
         Transition,
     };
     use row_theory::ActionRow;
-    use table::Draft;
+    use table::{Draft, SealedTable};
     use theory::Theory;
 
     // A list and a theory of rows are cloned whole, and memory never runs out for it.
@@ -191,6 +191,27 @@ mod tests {
         let _ = draft.add_pattern(1, terms);
         let _ = draft.add_transition(transition);
         draft
+    }
+
+    // What a caller holds a sealed table in. The type asks nothing of the theory.
+    #[derive(Drop)]
+    struct Held<T> {
+        rule: SealedTable<T>,
+    }
+
+    fn hold(draft: Draft, theory: LinearTheory) -> Result<Held<LinearTheory>, TableFault> {
+        draft.can_seal(&theory)?;
+        Ok(Held {
+            rule: draft.seal(theory),
+        })
+    }
+
+    #[test]
+    fn holding(rt: HostRuntime) {
+        let both = [Term::Variable(0), Term::Variable(1)];
+        let draft = draft_of([0, 0], &both, Transition::default());
+        let quantifiers = hold(draft, two_rows()).map(|held| held.rule.table().quantifiers.len());
+        assert_eq!(rt; quantifiers.ok(), Some(2));
     }
 
     // Sealing: the first faulty row by kind and number, 6 before 7.

@@ -1,12 +1,7 @@
 //! The stages of a rule: a draft, and a sealed table.
 
-ghost use Rattle.std.specs.Prelude.{◌≡◌, Ok};
-ghost use Rattle.sealing.specs.Model.{automaton_of};
-ghost use Rattle.sealing.specs.Sealing.{sealing};
-
 use sealing::Table;
 use std::marker::Model;
-use theory::Theory;
 
 // A rule in the making. It takes rows, and is then sealed with a theory.
 #[derive(Drop)]
@@ -23,11 +18,10 @@ impl Model for Draft {
     ghost view = { λ d. d.table };
 }
 
-// A rule with its theory. Its type says that sealing grants it, which means that it is well formed for the theory. Contracts name
-// the two fields: a model would hide them, and with them the fact that proofs read.
+// A rule whose rows have been checked against its theory, which it holds. That sealing grants them is promised by `seal` and not said
+// here: the bound that a ghost field over the theory's meaning needs would be asked of whoever names the type.
 #[derive(Drop)]
-pub struct SealedTable<T: Theory> {
+pub struct SealedTable<T> {
     pub(crate) table: Table,
     pub(crate) theory: T,
-    pub ghost granted: { sealing (automaton_of table) (T.Theory.meaning theory) ≡ Ok tt },
 }
